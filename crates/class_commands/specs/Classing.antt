@@ -16,7 +16,7 @@ use Rattle.order_classes.specs.Looks.{one_row}
 use Rattle.order_classes.specs.declared.rows.ClassRow.{ClassRow}
 use Rattle.order_classes.specs.declared.rows.Grouping.{Grouping}
 use Rattle.order_classes.specs.declared.rows.Grouping.TheVariants as by
-use Rattle.class_stretches.specs.declared.rank_run.RankRun.{RankRun}
+use Rattle.spec_schedules.specs.declared.kind.Kind.TheVariants.{Permutations}
 use Rattle.class_rows.specs.Pages.{IsClassed}
 use Rattle.class_rows.specs.declared.rows.Classed.{Classed}
 use Rattle.class_looks.specs.Seeing.{told_by, sees}
@@ -31,10 +31,9 @@ use Rattle.asked_classes.specs.declared.expectations.AskedExpectation.{AskedExpe
 use Rattle.asked_classes.specs.Asking.{IsAsked, IsRefused}
 use Rattle.book_commands.specs.declared.finding.Finding.{Finding}
 use Rattle.book_commands.specs.declared.finding.Finding.TheVariants.{Good}
-use Rattle.class_commands.specs.Written.{AreRanks}
 use Rattle.class_commands.specs.Opened.{IsWrittenAs}
 use Rattle.class_commands.specs.declared.classing.ClassesFault.{ClassesFault}
-use Rattle.class_commands.specs.declared.classing.ClassesFault.TheVariants.{Spec, Asked, Run, NoMemory, Write}
+use Rattle.class_commands.specs.declared.classing.ClassesFault.TheVariants.{Spec, Asked, Run, TooMany, NoMemory, Write}
 
 -- ---- the page
 
@@ -57,8 +56,8 @@ has_some [] = false
 has_some (x ∷ xs) = true
 
 -- with the path that the spec is told to lie at
-abbrev pub page_of : List ℕ → SpecFile → List Table → WantedClasses → AskedClasses → Classed → List (List RankRun) → Page
-page_of path file tables wanted asked x runs =
+abbrev pub page_of : List ℕ → SpecFile → List Table → WantedClasses → AskedClasses → Classed → Page
+page_of path file tables wanted asked x =
     record {
       path = path;
       orders = ranks file.run;
@@ -72,8 +71,8 @@ page_of path file tables wanted asked x runs =
       totals = x.totals;
       rows = x.rows.items;
       is_brief = wanted.brief;
-      with_ranks = wanted.ranks;
-      ranks = runs;
+      with_ranks = false;
+      ranks = [];
       with_outcomes = wanted.outcomes;
       with_left = wanted.left;
       looks = map (look_over x.rows.items) asked.looks.items;
@@ -100,10 +99,8 @@ pub record IsTellingOf (bytes path : List ℕ) (wanted : WantedClasses) (text : 
   pub asked : AskedClasses
   pub is_asked : IsAsked file tables wanted asked
   pub classed : Classed
-  pub are : IsClassed tables file.run asked.filters.items (grouping wanted.answers) classed
-  pub runs : List (List RankRun)
-  pub are_ranks : AreRanks wanted.ranks classed.stretches runs
-  pub written : IsWrittenAs wanted.form bytes file (page_of path file tables wanted asked classed runs) text
+  pub are : IsClassed Permutations tables file.run asked.filters.items (grouping wanted.answers) classed
+  pub written : IsWrittenAs wanted.form bytes file (page_of path file tables wanted asked classed) text
 
 -- what is found of the orders that it tells of
 abbrev pub IsFoundIn : {bytes path : List ℕ} {wanted : WantedClasses} {text : List ℕ} → IsTellingOf bytes path wanted text → Finding → Type 0
@@ -116,12 +113,13 @@ IsNotAsked bytes wanted Why = (file : SpecFile) × IsFileOf bytes file × ((tabl
 abbrev pub IsNotRun : SpecFile → List Table → WantedClasses → RunError → Type 0
 IsNotRun file tables wanted error = ((asked : AskedClasses) × IsAsked file tables wanted asked) × IsNotRunBy error (start file.run)
 
--- why classes are not written, and what that leaves in the writer: the bytes are no spec file; nothing is asked of it; the orders are not run; memory ran
--- out; or a write fails, which leaves a front of such a text
+-- why classes are not written, and what that leaves in the writer: the bytes are no spec file; nothing is asked of it; the orders are not run; there is no
+-- room for all states; memory ran out; or a write fails, which leaves a front of such a text
 abbrev pub IsNotTold : {W : Type 0} → (W → Option (List ℕ)) → Counted W → Counted W → List ℕ → List ℕ → WantedClasses → ClassesFault → Type 0
 IsNotTold contents old new bytes path wanted (Spec fault) = (new ≡ old) × IsNoSpec bytes fault
 IsNotTold contents old new bytes path wanted (Asked fault) = (new ≡ old) × IsNotAsked bytes wanted (λ file tables. IsRefused file tables wanted fault)
 IsNotTold contents old new bytes path wanted (Run error) = (new ≡ old) × IsNotAsked bytes wanted (λ file tables. IsNotRun file tables wanted error)
+IsNotTold contents old new bytes path wanted (TooMany noted) = new ≡ old
 IsNotTold contents old new bytes path wanted NoMemory = new ≡ old
 IsNotTold contents old new bytes path wanted (Write fault) = (text : List ℕ) × IsTellingOf bytes path wanted text × Stopped contents old new text
 

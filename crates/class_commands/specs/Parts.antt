@@ -4,11 +4,12 @@ use Rattle.std.specs.List.{list_all}
 use Rattle.binding_model.specs.declared.tables.Table.{Table}
 use Rattle.bound_specs.specs.Binding.{IsFileOf}
 use Rattle.bound_specs.specs.Spec.{SpecFile}
+use Rattle.machine_model.specs.Start.{start}
+use Rattle.session_machine.specs.Running.{IsNotRunBy}
 use Rattle.spec_binding.specs.SpecFiles.{IsNoSpec}
 use Rattle.spec_texts.specs.Texts.{Declares}
 use Rattle.transcripts.specs.Counted.{Wrote, Stopped}
 use Rattle.transcripts.specs.declared.counted.Counted.{Counted}
-use Rattle.class_stretches.specs.declared.rank_run.RankRun.{RankRun}
 use Rattle.class_rows.specs.declared.rows.Classed.{Classed}
 use Rattle.class_texts.specs.Expected.{Expectation, is_met}
 use Rattle.wanted_classes.specs.declared.wanted.WantedClasses.{WantedClasses}
@@ -18,8 +19,7 @@ use Rattle.book_commands.specs.declared.finding.Finding.{Finding}
 use Rattle.book_commands.specs.declared.finding.Finding.TheVariants.{Good, Bad}
 use Rattle.class_commands.specs.declared.asking.AskedSpec.{AskedSpec}
 use Rattle.class_commands.specs.declared.classing.ClassesFault.{ClassesFault}
-use Rattle.class_commands.specs.declared.classing.ClassesFault.TheVariants.{Spec, Asked, NoMemory, Write}
-use Rattle.class_commands.specs.Written.{AreRanks}
+use Rattle.class_commands.specs.declared.classing.ClassesFault.TheVariants.{Spec, Asked, Run, TooMany, NoMemory, Write}
 use Rattle.class_commands.specs.Opened.{IsWrittenAs}
 use Rattle.class_commands.specs.Classing.{IsNotAsked, page_of}
 
@@ -36,10 +36,16 @@ IsNotAskedSpec bytes wanted (Asked fault) = IsNotAsked bytes wanted (λ file tab
 IsNotAskedSpec bytes wanted NoMemory = Unit {0}
 IsNotAskedSpec bytes wanted fault = ⊥
 
+-- why nothing is found of the orders of a spec: it does not start, there is no room for all states, or memory ran out
+abbrev pub IsNotFound : SpecFile → ClassesFault → Type 0
+IsNotFound file (Run error) = IsNotRunBy error (start file.run)
+IsNotFound file (TooMany noted) = Unit {0}
+IsNotFound file NoMemory = Unit {0}
+IsNotFound file fault = ⊥
+
 -- the text is the page of what is found
 abbrev pub IsTextOf : List ℕ → SpecFile → List Table → WantedClasses → AskedClasses → Classed → List ℕ → Type 0
-IsTextOf path file tables wanted asked x text =
-    (runs : List (List RankRun)) × AreRanks wanted.ranks x.stretches runs × IsWrittenAs wanted.form file.text file (page_of path file tables wanted asked x runs) text
+IsTextOf path file tables wanted asked x text = IsWrittenAs wanted.form file.text file (page_of path file tables wanted asked x) text
 
 -- such a text is written and such a finding told; or a front of it is written, or nothing for want of memory
 abbrev pub Writes : {W : Type 0} → (W → Option (List ℕ)) → Counted W → Counted W → (List ℕ → Type 0) → (Finding → Type 0) → Result Finding ClassesFault → Type 0

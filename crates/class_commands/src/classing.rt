@@ -1,35 +1,42 @@
 //! Orders of a spec in classes, from the bytes of the spec to the text that is written.
 
-ghost use Rattle.std.specs.Prelude.{◌≡◌, ◌<◌, ℕ, IfOk, List, false, length};
+ghost use Rattle.std.specs.Prelude.{◌≡◌, ◌<◌, ℕ, IfErr, IfOk, IsErrOf, List, false};
+ghost use Rattle.machine_model.specs.Start.{start};
+ghost use Rattle.session_steps.specs.Refused.{IsRefusedBy};
+ghost use Rattle.session_steps.specs.declared.error.StartError.{StartError};
+ghost use Rattle.spec_schedules.specs.declared.kind.Kind.TheVariants.{Permutations};
 ghost use Rattle.spec_texts.specs.Texts.{Declares};
 ghost use Rattle.transcripts.specs.Counted.{failures_of};
-ghost use Rattle.class_walks.specs.Found.{AreParts};
 ghost use Rattle.class_rows.specs.Pages.{IsClassed};
+ghost use Rattle.class_rows.specs.Telling.{AreSerialOf};
 ghost use Rattle.class_commands.specs.Classing.{IsClassesRun, IsFinding, grouping};
 ghost use Rattle.class_commands.specs.Opened.{HasOrders};
-ghost use Rattle.class_commands.specs.Parts.{IsAskedSpec, IsTextOf, Writes};
+ghost use Rattle.class_commands.specs.Parts.{IsAskedSpec, IsNotFound, IsTextOf, Writes};
 
 use crate::asking::{AskedSpec, asked_spec};
 use crate::opened::orders_for;
+use crate::progress::StatesProgress;
 use crate::telling::told;
 use asked_classes::{AskedClasses, AskedFault};
 use binding_model::Table;
 use book_commands::Finding;
 use bound_specs::Spec;
-use class_groups::swept;
-use class_rows::{Asked, Classed, classed};
-use class_walks::{Part, part_alone, parts_of};
+use class_rows::{Asked, Classed, FoundOrders, classed};
+use different_shows::Different;
 use order_classes::{Filter, Grouping};
-use range_progress::Progress;
+use schedule_counts::{StatesError, Unwatched, Watch};
 use session_machine::RunError;
-use shard_board::{Gate, OpenGate, Workers};
-use spec_binding::{SpecFault, spec_of};
+use spec_binding::SpecFault;
+use spec_classes::{classes_of, serial_answers};
+use spec_schedules::Kind;
 use std::alloc::{AllocError, Global};
 use std::io::Write;
-use std::thread::Threads;
 use std::time::Clock;
 use transcripts::{Counted, WriteFault};
 use wanted_classes::WantedClasses;
+
+/// The states of a spec may take so many bytes, 2 GB.
+const ROOM: usize = 2_000_000_000;
 
 /// Why classes were not written. Each is tried before those below it, but for want of memory.
 #[derive(Clone, Copy, Drop)]
@@ -40,22 +47,22 @@ pub enum ClassesFault<'a> {
     Asked(AskedFault<'a>),
     /// The orders were not run: the spec does not start, or memory ran out.
     Run(RunError),
+    /// The orders lead to more different states than there is room for: so many were noted.
+    TooMany(u64),
     /// Memory ran out.
     NoMemory,
     /// The text was not written; a front of it may be.
     Write(WriteFault),
 }
 
-/// Reads a spec, has so many workers run its orders, and writes the classes of those that are asked for, with the path that the spec is told to
-/// lie at. Workers call the gate round each thousand of ranks. It is bad where an order that is asked for is not as expected.
-pub fn classes<'a, R: Threads + Sync, G: Gate + Sync, W: Write>(
-    rt: &R,
+/// Reads a spec, explores the states to which its orders lead, and writes the classes of the orders that are asked for, with the path that the spec is told
+/// to lie at. It is bad where an order that is asked for is not as expected.
+pub fn classes<'a, V: Watch, W: Write>(
     alloc: Global,
     bytes: &[u8],
     path: &str,
     wanted: &WantedClasses<'a>,
-    workers: &Workers,
-    gate: &G,
+    watch: &V,
     out: &mut Counted<W>,
 ) -> Result<Finding, ClassesFault<'a>>
     requires { failures_of out.old < u64.MAX }
@@ -65,51 +72,20 @@ pub fn classes<'a, R: Threads + Sync, G: Gate + Sync, W: Write>(
         Ok(asked) => asked,
         Err(fault) => return Err(fault),
     };
-    let number = workers.number();
-    let parts = match parts_of(
-        rt,
-        alloc,
-        &asked.spec,
-        asked.tables.as_slice(),
-        number,
-        gate,
-    ) {
-        Ok(parts) => parts,
-        Err(error) => return Err(ClassesFault::Run(error)),
-    };
-    tell(alloc, &asked, path, wanted, parts.as_slice(), out)
-}
-
-/// Does as `classes`, in the caller's thread.
-pub fn classes_alone<'a, W: Write>(
-    alloc: Global,
-    bytes: &[u8],
-    path: &str,
-    wanted: &WantedClasses<'a>,
-    out: &mut Counted<W>,
-) -> Result<Finding, ClassesFault<'a>>
-    requires { failures_of out.old < u64.MAX }
-    ensures { IsClassesRun W.contents out.old out.new bytes.now path.now wanted.now result }
-{
-    let asked = match asked_spec(alloc, bytes, wanted) {
-        Ok(asked) => asked,
+    let found = match found_of(alloc, &asked, grouping(wanted.answers), watch) {
+        Ok(found) => found,
         Err(fault) => return Err(fault),
     };
-    let parts = match part_alone(alloc, &asked.spec, asked.tables.as_slice()) {
-        Ok(parts) => parts,
-        Err(error) => return Err(ClassesFault::Run(error)),
-    };
-    tell(alloc, &asked, path, wanted, parts.as_slice(), out)
+    tell(alloc, &asked, path, wanted, &found, out)
 }
 
 /// Does as `classes`, and tells on `err` how far it is where that is wanted. What is not written there is no fault.
-pub fn classes_told<'a, R: Threads + Clock + Sync, W: Write, E: Write + Send>(
-    rt: &R,
+pub fn classes_told<'a, C: Clock, W: Write, E: Write>(
+    clock: &C,
     alloc: Global,
     bytes: &[u8],
     path: &str,
     wanted: &WantedClasses<'a>,
-    workers: &Workers,
     is_told: bool,
     out: &mut Counted<W>,
     err: &mut Counted<E>,
@@ -119,15 +95,11 @@ pub fn classes_told<'a, R: Threads + Clock + Sync, W: Write, E: Write + Send>(
     ensures quiet { is_told ≡ false → err.new ≡ err.old }
 {
     if !is_told {
-        return classes(rt, alloc, bytes, path, wanted, workers, &OpenGate, out);
+        return classes(alloc, bytes, path, wanted, &Unwatched, out);
     }
-    let ranks = match spec_of(alloc, bytes) {
-        Ok(spec) => spec.ranks(),
-        Err(fault) => return Err(ClassesFault::Spec(fault)),
-    };
-    let progress = Progress::new(rt, alloc, ranks, err);
-    let result = classes(rt, alloc, bytes, path, wanted, workers, &progress, out);
-    progress.close(result.is_ok());
+    let progress = StatesProgress::new(clock, alloc, err);
+    let result = classes(alloc, bytes, path, wanted, &progress, out);
+    progress.close();
     result
 }
 
@@ -141,54 +113,88 @@ pub(crate) fn grouping(answers: bool) -> Grouping
     }
 }
 
-/// Writes the classes of the orders that are asked for, by what all workers have found.
+/// What is found of the orders of a spec that are asked for.
+fn found_of<'a, V: Watch>(
+    alloc: Global,
+    asked: &AskedSpec<'a>,
+    by: Grouping,
+    watch: &V,
+) -> Result<Classed, ClassesFault<'a>>
+    ensures found { IfOk result (IsClassed Permutations asked.now.tables.items asked.now.spec.run asked.now.asked.filters.items by) }
+    ensures refused { IfErr result (IsNotFound asked.now.spec) }
+{
+    let spec = &asked.spec;
+    let tables = asked.tables.as_slice();
+    let filters = asked.asked.filters.as_slice();
+    match found_in(alloc, spec, tables, by, filters, watch) {
+        Ok(found) => Ok(found),
+        Err(StatesError::Start(error)) => Err(ClassesFault::Run(RunError::Start(error))),
+        Err(StatesError::TooMany(noted)) => Err(ClassesFault::TooMany(noted)),
+        Err(StatesError::Memory) => Err(ClassesFault::NoMemory),
+    }
+}
+
+/// What is found of the orders of a spec that pass filters.
+fn found_in<V: Watch>(
+    alloc: Global,
+    spec: &Spec,
+    tables: &[Table],
+    by: Grouping,
+    filters: &[Filter],
+    watch: &V,
+) -> Result<Classed, StatesError>
+    ensures found { IfOk result (IsClassed Permutations tables.now spec.now.run filters.now by) }
+    ensures refused { (error : StartError) → IsErrOf result (StatesError.Start error) → IsRefusedBy error (start spec.now.run) }
+{
+    let classes = classes_of(alloc, spec, tables, Kind::Permutations, ROOM, watch)?;
+    let serial = serial_of(alloc, spec, tables)?;
+    let found = FoundOrders {
+        spec,
+        tables,
+        kind: Kind::Permutations,
+        classes: classes.as_slice(),
+        serial: &serial,
+    };
+    let classed = classed(alloc, &found, Asked { by, filters })?;
+    Ok(classed)
+}
+
+/// What the serial orders of a spec answer: nothing of one with permutation lines.
+fn serial_of(alloc: Global, spec: &Spec, tables: &[Table]) -> Result<Different, StatesError>
+    ensures answers { IfOk result (AreSerialOf tables.now spec.now.run) }
+    ensures refused { (error : StartError) → IsErrOf result (StatesError.Start error) → IsRefusedBy error (start spec.now.run) }
+{
+    if spec.has_lines() {
+        return Ok(Different::new(alloc));
+    }
+    serial_answers(alloc, spec, tables)
+}
+
+/// Writes the classes of the orders that are asked for.
 fn tell<'a, W: Write>(
     alloc: Global,
     asked: &AskedSpec<'a>,
     path: &str,
     wanted: &WantedClasses<'a>,
-    parts: &[Part],
+    found: &Classed,
     out: &mut Counted<W>,
 ) -> Result<Finding, ClassesFault<'a>>
     requires fresh { failures_of out.old < u64.MAX }
     requires tables { Declares asked.now.spec.text asked.now.spec asked.now.tables.items }
-    requires parts { AreParts asked.now.tables.items asked.now.spec.run (length parts.now) parts.now }
-    requires some { 0 < length parts.now }
+    requires found { IsClassed Permutations asked.now.tables.items asked.now.spec.run asked.now.asked.filters.items (grouping wanted.now.answers) found.now }
     ensures { (bytes : List ℕ) → IsAskedSpec bytes wanted.now asked.now → IsClassesRun W.contents out.old out.new bytes path.now wanted.now result }
 {
     let spec = &asked.spec;
     let tables = asked.tables.as_slice();
     let given = &asked.asked;
-    let by = grouping(wanted.answers);
-    let filters = given.filters.as_slice();
-    let Ok(found) = found_in(alloc, spec, tables, by, filters, parts) else {
-        return Err(ClassesFault::NoMemory);
-    };
     let rows = found.rows.as_slice();
     let orders = match orders_for(alloc, spec, tables, path, wanted.form, rows) {
         Ok(orders) => orders,
         Err(error) => return Err(ClassesFault::Run(error)),
     };
     write_classes(
-        alloc, spec, path, tables, wanted, given, &found, &orders, out,
+        alloc, spec, path, tables, wanted, given, found, &orders, out,
     )
-}
-
-/// What is found of the orders of a spec that pass filters.
-fn found_in(
-    alloc: Global,
-    spec: &Spec,
-    tables: &[Table],
-    by: Grouping,
-    filters: &[Filter],
-    parts: &[Part],
-) -> Result<Classed, AllocError>
-    requires parts { AreParts tables.now spec.now.run (length parts.now) parts.now }
-    requires some { 0 < length parts.now }
-    ensures { IfOk result (IsClassed tables.now spec.now.run filters.now by) }
-{
-    let groups = swept(alloc, spec, tables, parts)?;
-    classed(alloc, spec, tables, &groups, Asked { by, filters })
 }
 
 fn write_classes<'a, W: Write>(

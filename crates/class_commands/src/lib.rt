@@ -5,9 +5,10 @@ mod asking;
 mod booking;
 mod classing;
 mod opened;
+mod progress;
 mod telling;
 mod written;
 
 pub use booking::{BookClassesFault, book_classes};
-pub use classing::{ClassesFault, classes, classes_alone, classes_told};
+pub use classing::{ClassesFault, classes, classes_told};
 pub use opened::MAX_SHOWN;

@@ -10,7 +10,7 @@ ghost use Rattle.class_commands.specs.Opened.{HasOrders};
 
 use crate::classing::grouping;
 use crate::opened::written_as;
-use crate::written::{Written, ranks_of};
+use crate::written::Written;
 use asked_classes::{AskedClasses, AskedExpectation, AskedLook};
 use binding_model::Table;
 use book_commands::Finding;
@@ -40,7 +40,6 @@ pub(crate) fn told<'a>(
 {
     one_row_is_met();
     let rows = found.rows.as_slice();
-    let ranks = ranks_of(alloc, wanted.ranks, &found.stretches)?;
     let looks = looks_over(alloc, asked.looks.as_slice(), rows)?;
     let expectations = expectations_over(alloc, asked.expectations.as_slice(), rows)?;
     let page = Page {
@@ -56,8 +55,8 @@ pub(crate) fn told<'a>(
         totals: found.totals,
         rows,
         is_brief: wanted.brief,
-        with_ranks: wanted.ranks,
-        ranks: ranks.as_slice(),
+        with_ranks: false,
+        ranks: &[],
         with_outcomes: wanted.outcomes,
         with_left: wanted.left,
         looks: looks.as_slice(),

@@ -20,13 +20,20 @@ const GAP_NANOS: u64 = 125_000_000;
 
 /// When a line was told last, from the run's beginning on.
 #[derive(Clone, Copy)]
-struct Pace {
+pub struct Pace {
     told: Duration,
 }
 
 impl Pace {
+    /// No line was told, and the run begins.
+    pub fn new() -> Pace {
+        Pace {
+            told: Duration::ZERO,
+        }
+    }
+
     /// Whether a line may be told by now. If so, it is taken as told.
-    fn take(&mut self, now: Duration) -> bool
+    pub fn take(&mut self, now: Duration) -> bool
         ensures due { result ≡ true → (as_nanos self.old.told + GAP_NANOS ≤ as_nanos now) × (self.new.told ≡ now) }
         ensures early { result ≡ false → self.new ≡ self.old }
     {
@@ -61,9 +68,7 @@ pub struct Progress<'a, C, E> {
 impl<'a, C: Clock, E: Write> Progress<'a, C, E> {
     /// A gate for a run of so many ranks, of which none is done.
     pub fn new(clock: &'a C, alloc: Global, ranks: u64, err: &'a mut Counted<E>) -> Self {
-        let pace = Pace {
-            told: Duration::ZERO,
-        };
+        let pace = Pace::new();
         Progress {
             clock,
             alloc,

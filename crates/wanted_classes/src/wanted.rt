@@ -56,8 +56,6 @@ pub struct WantedClasses<'a> {
     pub expectations: Vec<WantedExpectation<'a>>,
     /// The totals alone are told.
     pub brief: bool,
-    /// With the ranks of each class.
-    pub ranks: bool,
     /// With what the least order of each class tells each session.
     pub outcomes: bool,
     /// With what each class leaves.
