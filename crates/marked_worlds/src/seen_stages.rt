@@ -16,16 +16,19 @@ pub(crate) struct SeenStage {
     pub(crate) rows: RowsPicture,
     pub(crate) locks: LocksPicture,
     pub(crate) sessions: usize,
+    /// The number of the stage that was noted last before it with the same print.
+    pub(crate) earlier: Option<usize>,
 }
 
-/// Stages that were noted, in the order in which they were. The index has the newest one with a number made of what its sessions were told, or none where
-/// a stage with it was passed over. What it tells is compared, so that nothing but speed and size depends on it.
+/// Stages that were noted, in the order in which they were. The index has the newest one with a print, a number made of what its sessions were told, or
+/// none where a stage with it was passed over; from there each stage leads to the one before with its print. What they tell is compared, so that nothing
+/// but speed and size depends on them.
 #[derive(Drop)]
 pub(crate) struct SeenTable {
     pub(crate) stages: Vec<SeenStage>,
     pub(crate) newest: BTreeMap<u64, Option<usize>>,
-    /// How many cells, resources and sessions are noted, over all stages.
-    pub(crate) size: usize,
+    /// What all stages take.
+    pub(crate) bytes: usize,
 }
 
 impl SeenTable {
@@ -36,19 +39,25 @@ impl SeenTable {
         SeenTable {
             stages: Vec::new(alloc),
             newest: BTreeMap::new(alloc),
-            size: 0,
+            bytes: 0,
         }
+    }
+
+    /// The number of the newest stage with a print.
+    pub(crate) fn newest_with(&self, print: u64) -> Option<usize> {
+        *self.newest.get(&print)?
     }
 }
 
 impl SeenStage {
-    /// The stage of these parts.
+    /// The stage of these parts, with the one before it.
     pub(crate) fn of(
         alloc: Global,
         rows: &MarkedRows,
         locks: &MarkedLocks,
         members: &mut MarkedMembers,
         count: u8,
+        earlier: Option<usize>,
     ) -> Result<SeenStage, AllocError>
         requires { count ≡ length members.old.list }
         ensures seen { IfOk result (λ seen. stage_seen locks.now.resources members.new.seen seen ≡ staged_of rows.now.now locks.now.now members.old.list) }
@@ -63,6 +72,7 @@ impl SeenStage {
             rows,
             locks,
             sessions,
+            earlier,
         })
     }
 

@@ -30,14 +30,26 @@ use std::marker::Model;
 use std::sync::Arc;
 use transcripts::Outcome;
 
-/// So many cells and resources are noted, over all stages, until no more is, so that what is noted takes some tens of megabytes.
-const MOST_SEEN: usize = 1 << 19;
+/// `note` notes stages until they take so many bytes.
+const MOST_SEEN: usize = 24 << 20;
 
-/// A stage with so many cells and resources is noted when it comes first.
-const SMALL_STAGE: usize = 128;
+/// `note` notes a stage with so many cells and resources when it comes first.
+const SMALL_STAGE: usize = 112;
 
-/// What a stage takes beside its cells and resources, as if it had as many more.
-const STAGE_SIZE: usize = 16;
+/// So many stages with the print of the one now are compared with it, so that many stages with one print don't cost the square of their number.
+const MOST_COMPARED: usize = 64;
+
+/// What is noted of a stage takes so many bytes for each place at which something was written: what lies there, with its key.
+const PLACE_BYTES: usize = 80;
+
+/// So many for each resource: the modes that sessions hold on it.
+const RESOURCE_BYTES: usize = 24;
+
+/// So many for each session: how it stands, what it was told, and its wait.
+const SESSION_BYTES: usize = 80;
+
+/// And so many beside: the lists that have all that, with what allocations and lists that grow take, and the place in the index.
+const STAGE_BYTES: usize = 640;
 
 /// The rows, the locks and the sessions of a world, with marks to go back to.
 ///
@@ -173,25 +185,64 @@ impl MarkedStage {
         if let Some(number) = self.found(print, count) {
             return Ok(Some(number));
         }
-        if self.has_many() {
+        if self.seen.bytes >= MOST_SEEN {
             return Ok(None);
         }
         if self.is_large() && !self.seen.newest.contains_key(&print) {
             self.seen.newest.insert(print, None)?;
             return Ok(None);
         }
+        Ok(Some(self.add(print, count)?))
+    }
+
+    /// As `note`, but each stage is noted while all that is noted takes fewer bytes than there is room for. None where it is not found and the room is
+    /// used up.
+    pub(crate) fn note_within(
+        &mut self,
+        count: u8,
+        room: usize,
+    ) -> Result<Option<usize>, AllocError>
+        requires { count ≡ length self.old.now.members }
+        ensures known { IfOk result (λ answer. IfSome answer (λ number. slice_get self.new.seen number ≡ Some self.old.now)) }
+        ensures front { IsPrefix self.old.seen self.new.seen }
+        ensures same { self.new ≡ record self.old { seen = self.new.seen } }
+    {
+        let print = self.members.print(count);
+        if let Some(number) = self.found(print, count) {
+            return Ok(Some(number));
+        }
+        if self.seen.bytes >= room {
+            return Ok(None);
+        }
+        Ok(Some(self.add(print, count)?))
+    }
+
+    /// How many bytes all that is noted of stages takes, or a few more.
+    pub(crate) fn noted_bytes(&self) -> usize {
+        self.seen.bytes
+    }
+
+    /// Notes the stage now, with so many sessions, behind all others. The answer is its number.
+    fn add(&mut self, print: u64, count: u8) -> Result<usize, AllocError>
+        requires { count ≡ length self.old.now.members }
+        ensures known { IfOk result (λ number. slice_get self.new.seen number ≡ Some self.old.now) }
+        ensures front { IsPrefix self.old.seen self.new.seen }
+        ensures same { self.new ≡ record self.old { seen = self.new.seen } }
+    {
         let number = self.seen.stages.len();
+        let earlier = self.seen.newest_with(print);
         let stage = SeenStage::of(
             self.alloc,
             &self.rows,
             &self.locks,
             &mut self.members,
             count,
+            earlier,
         )?;
         self.seen.stages.push(stage)?;
-        self.seen.size = self.seen.size.saturating_add(self.size());
+        self.seen.bytes = self.seen.bytes.saturating_add(self.bytes(count));
         self.seen.newest.insert(print, Some(number))?;
-        Ok(Some(number))
+        Ok(number)
     }
 
     /// The number of the stage now among those that were noted, looked for by the number that is made of what its sessions were told.
@@ -199,31 +250,32 @@ impl MarkedStage {
         requires { count ≡ length self.now.now.members }
         ensures { IfSome result (λ number. slice_get self.now.seen number ≡ Some self.now.now) }
     {
-        let number = (*self.seen.newest.get(&print)?)?;
-        let seen = self.seen.stages.as_slice().get(number)?;
-        if seen.is(&self.rows, &self.locks, &self.members, count) {
-            Some(number)
-        } else {
-            None
+        let mut next = self.seen.newest_with(print);
+        for _compared in 0..MOST_COMPARED {
+            let number = next?;
+            let seen = self.seen.stages.as_slice().get(number)?;
+            if seen.is(&self.rows, &self.locks, &self.members, count) {
+                return Some(number);
+            }
+            next = seen.earlier;
         }
+        None
     }
 
-    /// How many cells and resources the stage has: a picture of it is as long.
-    fn size(&self) -> usize {
-        self.rows
-            .places()
-            .saturating_add(self.numbers.count())
-            .saturating_add(STAGE_SIZE)
+    /// How many bytes what is noted of the stage takes.
+    fn bytes(&self, count: u8) -> usize {
+        let places = self.rows.places().saturating_mul(PLACE_BYTES);
+        let resources = self.numbers.count().saturating_mul(RESOURCE_BYTES);
+        let sessions = (count as usize).saturating_mul(SESSION_BYTES);
+        places
+            .saturating_add(resources)
+            .saturating_add(sessions)
+            .saturating_add(STAGE_BYTES)
     }
 
     /// Whether the stage is noted only when it may have come a second time, since a picture of it is as long as a table.
     fn is_large(&self) -> bool {
-        self.size() > SMALL_STAGE
-    }
-
-    /// Whether so much was noted that no more is.
-    fn has_many(&self) -> bool {
-        self.seen.size >= MOST_SEEN
+        self.rows.places().saturating_add(self.numbers.count()) > SMALL_STAGE
     }
 
     /// Sets a mark. Without memory everything stays as it was.

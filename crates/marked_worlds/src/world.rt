@@ -190,6 +190,25 @@ impl MarkedWorld<'_> {
         Ok(self.stage.note(self.spec.sessions() + 1)?)
     }
 
+    /// As `number`, but each world is noted, large ones too, while all that is noted takes fewer bytes than `room`: none says that the world was not found
+    /// and the room is used up.
+    pub fn number_within(&mut self, room: usize) -> Result<Option<usize>, SendError>
+        ensures known { IfOk result (λ answer. IfSome answer (λ number. slice_get self.new.seen number ≡ Some self.old.world)) }
+        ensures spent { IsErrOf result SendError.Spent ↔ (self.old.spent ≡ true) }
+        ensures front { IsPrefix self.old.seen self.new.seen }
+        ensures same { self.new ≡ record self.old { seen = self.new.seen } }
+    {
+        if self.is_spent {
+            return Err(SendError::Spent);
+        }
+        Ok(self.stage.note_within(self.spec.sessions() + 1, room)?)
+    }
+
+    /// How many bytes all that is noted of worlds takes, or a few more.
+    pub fn noted_bytes(&self) -> usize {
+        self.stage.noted_bytes()
+    }
+
     /// The outcome that was told with a number.
     pub fn told(&self, number: usize) -> &Outcome
         requires { number < length self.now.told }

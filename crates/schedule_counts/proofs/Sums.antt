@@ -6,17 +6,19 @@ use Rattle.std.proofs.lemmas.Bool.{false≢true}
 use Rattle.std.proofs.lemmas.List.{append-nil, length-map, length-append}
 use Rattle.std.proofs.lemmas.List.Elements.{All-head, All-tail}
 use Rattle.std.proofs.lemmas.Map.Steps.{length-le_from_distinct_below}
-use Rattle.events.specs.declared.event.Event.{Event}
+use Rattle.binding_model.specs.declared.tables.Table.{Table}
 use Rattle.path_counts.specs.Paths.{Has, AreApart}
 use Rattle.path_counts.proofs.Lists.{has-left, has-right, has-cases, has-mapped, apart-map, apart-append}
 use Rattle.bound_specs.specs.Spec.{Spec, Step, queues_of, counts_of}
-use Rattle.machine_model.specs.World.{World, send, send_all, outcome_of}
+use Rattle.machine_model.specs.World.{World, send, send_all}
 use Rattle.spec_schedules.specs.declared.kind.Kind.{Kind}
 use Rattle.spec_schedules.specs.Schedules.{session_of, own_steps, may_come, EachMayCome, IsOrder, IsRank, permutations}
 use Rattle.spec_schedules.proofs.Ranks.{word_rank}
 use Rattle.spec_schedules.proofs.Letters.{AreQueued, own-here, own-other, spec-queued, length-queues}
 use Rattle.spec_schedules.proofs.Words.{word_of, order-word, runs-serve}
 use Rattle.spec_schedules.proofs.Few.{word-rank-is}
+use Rattle.order_classes.specs.declared.shows.Shows.{Shows}
+use Rattle.order_classes.specs.Shows.{shows_in}
 use Rattle.schedule_counts.specs.declared.counting.FinalState.{FinalState}
 use Rattle.schedule_counts.specs.States.{AreFinalStates}
 use Rattle.schedule_counts.specs.Classes.{count_of, total_count, AreClasses}
@@ -138,7 +140,7 @@ module _ (kind : Kind) (run : Spec) (start : World) (sessions : run.sessions ≤
 
   -- ---- the orders of several states
 
-  module _ (told : List (List (List Event))) (all : List FinalState) (is : AreFinalStates kind run start told all) where
+  module _ (tables : List Table) (shown : List Shows) (all : List FinalState) (is : AreFinalStates kind tables run start shown all) where
     abbrev orders_at : List FinalState → List (List ℕ)
     orders_at [] = []
     orders_at (f ∷ fs) = is.orders f.state ++ orders_at fs
@@ -170,32 +172,32 @@ module _ (kind : Kind) (run : Spec) (start : World) (sessions : run.sessions ≤
         let b = orders-long fs (λ g h. sub g (inr h)) in
         omega arith
 
-    -- the states with an outcome
+    -- the states that show what has a number
     abbrev with_number : ℕ → List FinalState → List FinalState
     with_number n [] = []
-    with_number n (f ∷ fs) = cond (f.outcome == n) (f ∷ with_number n fs) (with_number n fs)
+    with_number n (f ∷ fs) = cond (f.shows == n) (f ∷ with_number n fs) (with_number n fs)
 
-    with-in : (n : ℕ) (fs : List FinalState) (f : FinalState) → Has f (with_number n fs) → Has f fs × (f.outcome ≡ n)
+    with-in : (n : ℕ) (fs : List FinalState) (f : FinalState) → Has f (with_number n fs) → Has f fs × (f.shows ≡ n)
     with-in n [] f h = absurd h
-    with-in n (g ∷ fs) f h = at (g.outcome == n) refl h (λ x. with-in n fs f x)
+    with-in n (g ∷ fs) f h = at (g.shows == n) refl h (λ x. with-in n fs f x)
       where
-        at : (b : Bool) → (g.outcome == n) ≡ b → Has f (cond b (g ∷ with_number n fs) (with_number n fs)) → (Has f (with_number n fs) → Has f fs × (f.outcome ≡ n)) → Has f (g ∷ fs) × (f.outcome ≡ n)
-        at true e (inl x) rest = (inl x, ap (λ (y : FinalState). y.outcome) x ∙ eqb-true g.outcome n e)
+        at : (b : Bool) → (g.shows == n) ≡ b → Has f (cond b (g ∷ with_number n fs) (with_number n fs)) → (Has f (with_number n fs) → Has f fs × (f.shows ≡ n)) → Has f (g ∷ fs) × (f.shows ≡ n)
+        at true e (inl x) rest = (inl x, ap (λ (y : FinalState). y.shows) x ∙ eqb-true g.shows n e)
         at true e (inr x) rest = let r = rest x in (inr r.0, r.1)
         at false e x rest = let r = rest x in (inr r.0, r.1)
 
-    in-with : (fs : List FinalState) (f : FinalState) → Has f fs → Has f (with_number f.outcome fs)
+    in-with : (fs : List FinalState) (f : FinalState) → Has f fs → Has f (with_number f.shows fs)
     in-with [] f h = absurd h
-    in-with (g ∷ fs) f (inl e) = subst (λ b. Has f (cond b (g ∷ with_number f.outcome fs) (with_number f.outcome fs))) (sym (eq-eqb g.outcome f.outcome (ap (λ (y : FinalState). y.outcome) (sym e)))) (inl e)
-    in-with (g ∷ fs) f (inr h) = at (g.outcome == f.outcome) (in-with fs f h)
+    in-with (g ∷ fs) f (inl e) = subst (λ b. Has f (cond b (g ∷ with_number f.shows fs) (with_number f.shows fs))) (sym (eq-eqb g.shows f.shows (ap (λ (y : FinalState). y.shows) (sym e)))) (inl e)
+    in-with (g ∷ fs) f (inr h) = at (g.shows == f.shows) (in-with fs f h)
       where
-        at : (b : Bool) → Has f (with_number f.outcome fs) → Has f (cond b (g ∷ with_number f.outcome fs) (with_number f.outcome fs))
+        at : (b : Bool) → Has f (with_number f.shows fs) → Has f (cond b (g ∷ with_number f.shows fs) (with_number f.shows fs))
         at true x = inr x
         at false x = x
 
     with-apart : (n : ℕ) (fs : List FinalState) → AreApart fs → AreApart (with_number n fs)
     with-apart n [] a = tt
-    with-apart n (f ∷ fs) a = at (f.outcome == n) (with-apart n fs a.1)
+    with-apart n (f ∷ fs) a = at (f.shows == n) (with-apart n fs a.1)
       where
         at : (b : Bool) → AreApart (with_number n fs) → AreApart (cond b (f ∷ with_number n fs) (with_number n fs))
         at true x = (λ h. a.0 (with-in n fs f h).0, x)
@@ -203,19 +205,19 @@ module _ (kind : Kind) (run : Spec) (start : World) (sessions : run.sessions ≤
 
     with-total : (n : ℕ) (fs : List FinalState) → total_count (with_number n fs) ≡ count_of n fs
     with-total n [] = refl
-    with-total n (f ∷ fs) = at (f.outcome == n) (with-total n fs)
+    with-total n (f ∷ fs) = at (f.shows == n) (with-total n fs)
       where
         at : (b : Bool) → total_count (with_number n fs) ≡ count_of n fs → total_count (cond b (f ∷ with_number n fs) (with_number n fs)) ≡ cond b (f.count + count_of n fs) (count_of n fs)
         at true e = ap (λ m. f.count + m) e
         at false e = e
 
-    each-at : (f : FinalState) (ks : List ℕ) → Has f all → Has ks (is.orders f.state) → IsOne ks × (slice_get told f.outcome ≡ Some (outcome_of run.sessions (send_all run.steps start ks)))
+    each-at : (f : FinalState) (ks : List ℕ) → Has f all → Has ks (is.orders f.state) → IsOne ks × (slice_get shown f.shows ≡ Some (shows_in tables run.sessions (send_all run.steps start ks)))
     each-at f ks h k =
         let e = is.entries f h in
         let x = e.1.each ks k in
-        (x.0, e.2 ∙ ap (λ w. Some (outcome_of run.sessions w)) (sym x.1))
+        (x.0, e.2 ∙ ap (λ w. Some (shows_in tables run.sessions w)) (sym x.1))
 
-    pub classes-of : permutations (queues_of run) < 2 ^ 63 → AreClasses kind run start told all
+    pub classes-of : permutations (queues_of run) < 2 ^ 63 → AreClasses kind tables run start shown all
     classes-of few = record {
       orders = λ n. orders_at (with_number n all);
       class = λ n. record {
@@ -225,16 +227,16 @@ module _ (kind : Kind) (run : Spec) (start : World) (sessions : run.sessions ≤
             (let r = orders-in (with_number n all) ks h in
             let f = with-in n all r.0 r.1 in
             let x = each-at r.0 ks f.0 r.2 in
-            (x.0, ap (slice_get told) (sym f.1) ∙ x.1));
+            (x.0, ap (slice_get shown) (sym f.1) ∙ x.1));
       };
       some = λ ks h.
           (let x = is.some ks h in
-          (x.0.outcome, in-orders (with_number x.0.outcome all) x.0 ks (in-with all x.0 x.1) x.2));
+          (x.0.shows, in-orders (with_number x.0.shows all) x.0 ks (in-with all x.0 x.1) x.2));
       below = λ n ks rank h r.
           (let x = orders-in (with_number n all) ks h in
           let f = with-in n all x.0 x.1 in
           (x.0, f.0, f.1, (is.entries x.0 f.0).1.below ks rank x.2 r));
-      met = λ f h. let x = (is.entries f h).1.met in (x.0, in-orders (with_number f.outcome all) f x.0 (in-with all f h) x.1, x.2);
+      met = λ f h. let x = (is.entries f h).1.met in (x.0, in-orders (with_number f.shows all) f x.0 (in-with all f h) x.1, x.2);
       few =
           (let le = orders-few (orders_at all) (orders-apart all is.apart (λ f h. h)) (λ ks h. let r = orders-in all ks h in (each-at r.0 ks r.1 r.2).0) in
           let l = orders-long all (λ f h. h) in

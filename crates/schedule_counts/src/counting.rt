@@ -15,7 +15,9 @@ ghost use Rattle.schedule_counts.specs.States.{AreFinalStates, AreOver, AreState
 use crate::laws::sums_are_exact;
 use crate::place::Place;
 use crate::search::Search;
+use binding_model::Table;
 use bound_specs::Spec;
+use different_shows::Different;
 use marked_worlds::MarkedWorld;
 use numbered_specs::SpecNumbers;
 use path_counts::CountError;
@@ -30,19 +32,29 @@ use world_graph::{ExploreError, Final, ScheduleError, finals};
 pub struct FinalState {
     /// Its number among the states that were noted.
     pub state: usize,
-    /// The number of its outcome, which other states may share.
-    pub outcome: usize,
+    /// The number of what it shows.
+    pub shows: u32,
     /// How many orders end in it, 1 at least. All counts of a spec have a sum below 2^63.
     pub count: u64,
     /// The least rank of these orders: the rank of an order is that of the least permutation that begins with it.
     pub first: u64,
 }
 
-/// The states in which the orders of a spec end, and the machine that has their outcomes.
-#[derive(Drop)]
-pub struct FinalStates<'a> {
-    pub machine: MarkedWorld<'a>,
+/// The states in which the orders of a spec end, with what they show.
+pub struct FinalStates {
+    /// What the states show, each once, in the order of numbers.
+    pub shows: Different,
     pub states: Vec<FinalState>,
+}
+
+// Written out and not derived, so that who owns one calls this and does not let its parts go one by one.
+impl Drop for FinalStates {
+    fn drop(self) {
+        let FinalStates {
+            shows: _shows,
+            states: _states,
+        } = self;
+    }
 }
 
 /// Why the states are not counted.
@@ -50,9 +62,9 @@ pub struct FinalStates<'a> {
 pub enum StatesError {
     /// The spec does not start.
     Start(StartError),
-    /// More states were noted than are allowed.
-    TooMany,
-    /// Out of memory, or the machine can note no more.
+    /// There is no room for more than so many states, which were noted.
+    TooMany(u64),
+    /// Out of memory.
     Memory,
 }
 
@@ -72,39 +84,54 @@ impl From<StartError> for StatesError {
     }
 }
 
-/// Counts the orders of a spec without permutation lines by the states in which they end. At most `most` states are noted.
+/// So many worlds have numbers.
+const MOST_WORLDS: usize = 0xffff_ffff;
+
+/// Counts the orders of a spec without permutation lines, with these tables, by the states in which they end. Worlds are noted while those that were noted take
+/// fewer bytes than `room`.
 pub fn final_states<'a>(
     alloc: Global,
     spec: &'a Spec,
+    tables: &'a [Table],
     kind: Kind,
-    most: usize,
-) -> Result<FinalStates<'a>, StatesError>
+    room: usize,
+) -> Result<FinalStates, StatesError>
     requires { spec.now.run.lines ≡ [] }
-    ensures counted { IfOk result (λ found. (w : World) × (start spec.now.run ≡ Started w) × AreFinalStates kind spec.now.run w found.machine.told found.states.items × AreClasses kind spec.now.run w found.machine.told found.states.items) }
+    ensures counted { IfOk result (λ found. (w : World) × (start spec.now.run ≡ Started w) × AreFinalStates kind tables.now spec.now.run w found.shows found.states.items × AreClasses kind tables.now spec.now.run w found.shows found.states.items) }
     ensures refused { (error : StartError) → IsErrOf result (StatesError.Start error) → IsRefusedBy error (start spec.now.run) }
 {
-    let mut search = started(alloc, spec, kind)?;
+    let mut search = started(alloc, spec, tables, kind, room)?;
     no_order_leads_back();
     orders_are_few();
     orders_are_words();
     sums_are_exact();
-    match finals(alloc, &mut search, most) {
+    match finals(alloc, &mut search, MOST_WORLDS) {
         Ok(finals) => {
             let states = states_of(alloc, &search, finals.as_slice())?;
             Ok(FinalStates {
-                machine: search.machine,
+                shows: search.shown,
                 states,
             })
         }
-        Err(error) => Err(states_error(error)),
+        Err(error) => {
+            let noted = search.noted.len() as u64;
+            Err(states_error(error, search.is_full(), noted))
+        }
     }
 }
 
 /// The search at the start of a spec.
-fn started<'a>(alloc: Global, spec: &'a Spec, kind: Kind) -> Result<Search<'a>, StatesError>
+fn started<'a>(
+    alloc: Global,
+    spec: &'a Spec,
+    tables: &'a [Table],
+    kind: Kind,
+    room: usize,
+) -> Result<Search<'a>, StatesError>
     requires { spec.now.run.lines ≡ [] }
     ensures point { IfOk result (λ search. (w : World) × (start spec.now.run ≡ Started w) × (search.point ≡ start_point kind spec.now.run w)) }
     ensures file { IfOk result (λ search. search.file ≡ spec.now) }
+    ensures tables { IfOk result (λ search. search.tables ≡ tables.now) }
     ensures few { IfOk result (λ search. permutations (queues_of spec.now.run) < 2 ^ 63) }
     ensures refused { (error : StartError) → IsErrOf result (StatesError.Start error) → IsRefusedBy error (start spec.now.run) }
 {
@@ -116,11 +143,15 @@ fn started<'a>(alloc: Global, spec: &'a Spec, kind: Kind) -> Result<Search<'a>, 
     let numbers = shared(alloc, numbers)?;
     let machine = MarkedWorld::start(alloc, spec, numbers)?;
     Ok(Search {
+        alloc,
         machine,
+        tables,
         kind,
         place: Place::start(spec, shape),
         marks: Vec::new(alloc),
         noted: Vec::new(alloc),
+        shown: Different::new(alloc),
+        room,
     })
 }
 
@@ -137,7 +168,7 @@ fn states_of(
     finals: &[Final],
 ) -> Result<Vec<FinalState>, AllocError>
     requires { AreOver search.now.seen finals.now }
-    ensures { IfOk result (λ states. AreStatesOf search.now.seen search.now.told finals.now states.items) }
+    ensures { IfOk result (λ states. AreStatesOf search.now.tables search.now.seen search.now.shown finals.now states.items) }
 {
     let mut states = Vec::new(alloc);
     for place in 0..finals.len() {
@@ -149,25 +180,26 @@ fn states_of(
 /// The state of a final node.
 fn state_of(search: &Search<'_>, end: Final) -> FinalState
     requires { IsOverAt search.now.seen end }
-    ensures { IsStateOf search.now.seen search.now.told end result }
+    ensures { IsStateOf search.now.tables search.now.seen search.now.shown end result }
 {
-    let outcome = search.outcome_at(end.node).unwrap();
+    let shows = search.shows_at(end.node).unwrap();
     FinalState {
         state: end.node,
-        outcome,
+        shows,
         count: end.count,
         first: end.least,
     }
 }
 
-/// Why there are no states. No world leads back to itself, and all numbers fit.
-fn states_error(error: ScheduleError) -> StatesError
+/// Why there are no states, where so many worlds were noted. No world leads back to itself, and all numbers fit.
+fn states_error(error: ScheduleError, is_full: bool, noted: u64) -> StatesError
     requires circle { error ≡ ScheduleError.Explore ExploreError.Circle → ⊥ }
     requires large { error ≡ ScheduleError.Count CountError.TooLarge → ⊥ }
-    ensures { result ≡ error_of error }
+    ensures { result ≡ error_of error is_full noted }
 {
     match error {
-        ScheduleError::Explore(ExploreError::TooMany) => StatesError::TooMany,
+        ScheduleError::Explore(ExploreError::TooMany) => StatesError::TooMany(noted),
+        ScheduleError::Explore(ExploreError::Refusal) if is_full => StatesError::TooMany(noted),
         ScheduleError::Explore(ExploreError::Circle) | ScheduleError::Count(CountError::TooLarge) =>
             { unreachable!() }
         _ => StatesError::Memory,

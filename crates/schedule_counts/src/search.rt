@@ -3,16 +3,20 @@
 ghost use Rattle.std.specs.Prelude.{◌≡◌, ◌∷◌, ◌++◌, [], false, true, length, slice_get, IfOk, OnOk, Some};
 ghost use Rattle.world_graph.specs.Worlds.{IsOver};
 ghost use Rattle.spec_schedules.specs.Schedules.{may_come};
-ghost use Rattle.schedule_counts.specs.Searching.{HasOutcome, IsOutcomeAt};
+ghost use Rattle.schedule_counts.specs.Searching.{HasShows, IsShownAt};
 ghost use Rattle.spec_schedules.specs.Points.{Point, point_rules};
 
 use crate::machine::world_number;
 use crate::place::Place;
+use binding_model::Table;
+use different_shows::Different;
 use marked_worlds::MarkedWorld;
 use perm_ranks::MAX_SESSIONS;
 use spec_schedules::Kind;
+use std::alloc::Global;
 use std::marker::Model;
 use world_graph::{Explored, LETTERS, Refused};
+use world_shows::shows_of;
 
 /// A world that was noted.
 #[derive(Clone, Copy)]
@@ -21,19 +25,25 @@ pub(crate) struct Noted {
     pub(crate) world: usize,
     /// For each session the number from which on its steps are still to be sent.
     pub(crate) next: [u8; MAX_SESSIONS],
-    /// The number of its outcome, where no further step may come.
-    pub(crate) outcome: Option<usize>,
+    /// The number of what it shows, where no further step may come.
+    pub(crate) shows: Option<u32>,
 }
 
-/// A machine of a spec, with what is still to be sent, and the worlds that were noted.
+/// A machine of a spec, with what is still to be sent, the worlds that were noted, and what was shown.
 #[derive(Drop)]
 pub(crate) struct Search<'a> {
+    pub(crate) alloc: Global,
     pub(crate) machine: MarkedWorld<'a>,
+    /// The tables of the spec.
+    pub(crate) tables: &'a [Table],
     pub(crate) kind: Kind,
     pub(crate) place: Place,
     /// The places at the marks, the oldest first.
     pub(crate) marks: Vec<Place>,
     pub(crate) noted: Vec<Noted>,
+    pub(crate) shown: Different,
+    /// The machine's worlds may take so many bytes.
+    pub(crate) room: usize,
 }
 
 impl<'a> Model for Search<'a> {
@@ -45,18 +55,22 @@ impl<'a> Model for Search<'a> {
     ghost use Rattle.bound_statements.specs.contracts.statement.Bound as bound;
     ghost use Rattle.events.specs.contracts.event.Event as event;
     ghost use Rattle.spec_schedules.specs.contracts.kind.Kind as kinds;
+    ghost use Rattle.binding_model.specs.contracts.tables.Table as table;
+    ghost use Rattle.order_classes.specs.contracts.shows.Shows as shows;
     ghost use Rattle.schedule_counts.specs.Searching.{Searched, searched, IsKept};
 
     ghost Value = { Searched };
 
-    ghost coded = { Prim.hlevel (codes, map_code, value.the_row.coded, bound.the_row.coded, resource.the_row.coded, waiting.the_row.coded, event.the_row.coded, kinds.the_row.coded) };
+    ghost coded = { Prim.hlevel (codes, map_code, value.the_row.coded, bound.the_row.coded, resource.the_row.coded, waiting.the_row.coded, event.the_row.coded, kinds.the_row.coded, table.the_row.coded, shows.the_row.coded) };
 
-    ghost view = { λ s. searched s.machine s.kind s.place s.marks.items s.noted.items };
+    ghost view = { λ s. searched s.machine s.tables.now s.kind s.place s.marks.items s.noted.items s.shown };
 
-    ghost invariant = { λ s. IsKept s.machine s.kind s.place s.marks.items s.noted.items };
+    ghost invariant = { λ s. IsKept s.machine s.tables.now s.kind s.place s.marks.items s.noted.items s.shown };
 }
 
 impl Explored for Search<'_> {
+    ghost use Rattle.std.specs.Prelude.{List};
+    ghost use Rattle.binding_model.specs.declared.tables.Table.{Table};
     ghost use Rattle.spec_schedules.specs.Points.{Point, point_rules};
 
     ghost World = { Point };
@@ -68,6 +82,10 @@ impl Explored for Search<'_> {
     ghost marked = { λ s. s.marked };
 
     ghost seen = { λ s. s.seen };
+
+    ghost Fixed = { List Table };
+
+    ghost fixed = { λ s. s.tables };
 
     ghost is_whole = { λ s. s.spent ≡ false };
 
@@ -113,8 +131,8 @@ impl Explored for Search<'_> {
         if self.is_noted(world) {
             return short(world);
         }
-        let outcome = self.outcome()?;
-        self.note(world, outcome)
+        let shows = self.shows()?;
+        self.note(world, shows)
     }
 }
 
@@ -149,7 +167,7 @@ impl Search<'_> {
         ensures whole { OnOk result (self.old.spent ≡ false) }
         ensures same { self.new ≡ record self.old { worlds = self.new.worlds } }
     {
-        world_number(&mut self.machine)
+        world_number(&mut self.machine, self.room)
     }
 
     /// Whether the point now was noted under this number, which is that of its world.
@@ -163,25 +181,28 @@ impl Search<'_> {
         }
     }
 
-    /// The number of the outcome of the world now, where no further step may come.
-    fn outcome(&mut self) -> Result<Option<usize>, Refused>
+    /// The number of what the world now shows, where no further step may come.
+    fn shows(&mut self) -> Result<Option<u32>, Refused>
         requires { self.old.spent ≡ false }
-        ensures told { IfOk result (IsOutcomeAt self.new) }
-        ensures same { self.new ≡ record self.old { told = self.new.told } }
+        ensures shown { IfOk result (IsShownAt self.new) }
+        ensures same { self.new ≡ record self.old { shown = self.new.shown } }
     {
         if !self.is_over() {
             return Ok(None);
         }
-        match self.machine.outcome() {
+        let Ok(shows) = shows_of(self.alloc, &mut self.machine, self.tables) else {
+            return Err(Refused);
+        };
+        match self.shown.number(&shows) {
             Ok(number) => Ok(Some(number)),
             Err(_) => Err(Refused),
         }
     }
 
     /// Notes the point now, and answers its number.
-    fn note(&mut self, world: usize, outcome: Option<usize>) -> Result<u32, Refused>
+    fn note(&mut self, world: usize, shows: Option<u32>) -> Result<u32, Refused>
         requires known { slice_get self.old.worlds world ≡ Some self.old.point.world }
-        requires outcome { IsOutcomeAt self.old outcome }
+        requires shows { IsShownAt self.old shows }
         ensures number { IfOk result (λ number. number ≡ length self.old.seen) }
         ensures noted { OnOk result (self.new ≡ record self.old { seen = self.old.seen ++ self.old.point ∷ [] }) }
     {
@@ -189,7 +210,7 @@ impl Search<'_> {
         let noted = Noted {
             world,
             next: self.place.next,
-            outcome,
+            shows,
         };
         match self.noted.push(noted) {
             Ok(()) => Ok(number),
@@ -197,11 +218,16 @@ impl Search<'_> {
         }
     }
 
-    /// The number of the outcome of a point that was noted, where no further step may come.
-    pub(crate) fn outcome_at(&self, number: usize) -> Option<usize>
-        ensures { (p : Point) → slice_get self.now.seen number ≡ Some p → IsOver point_rules p → HasOutcome self.now.told p result }
+    /// The number of what a point shows that was noted, where no further step may come.
+    pub(crate) fn shows_at(&self, number: usize) -> Option<u32>
+        ensures { (p : Point) → slice_get self.now.seen number ≡ Some p → IsOver point_rules p → HasShows self.now.tables self.now.shown p result }
     {
-        self.noted.get(number)?.outcome
+        self.noted.get(number)?.shows
+    }
+
+    /// Whether the worlds that were noted take the room that there is.
+    pub(crate) fn is_full(&self) -> bool {
+        self.machine.noted_bytes() >= self.room
     }
 }
 

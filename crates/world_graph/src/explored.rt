@@ -29,6 +29,11 @@ pub trait Explored {
     /// The worlds that were noted, by their numbers.
     ghost seen: { Self → List World };
 
+    /// What nothing changes.
+    ghost Fixed: { Type 0 };
+
+    ghost fixed: { Self → Fixed };
+
     /// It can be asked what is enabled: nothing was refused since it went back.
     ghost is_whole: { Self → Type 0 };
 
@@ -51,26 +56,30 @@ pub trait Explored {
         ensures whole { OnOk result (is_whole self.new) }
         ensures world { OnOk result (world self.new ≡ rules.next (world self.old) letter) }
         ensures marked { OnOk result (marked self.new ≡ marked self.old) }
-        ensures seen { OnOk result (seen self.new ≡ seen self.old) };
+        ensures seen { OnOk result (seen self.new ≡ seen self.old) }
+        ensures fixed { OnOk result (fixed self.new ≡ fixed self.old) };
 
     /// Sets a mark.
     fn mark(&mut self) -> Result<(), Refused>
         ensures whole { OnOk result (is_whole self.new) }
         ensures world { OnOk result (world self.new ≡ world self.old) }
         ensures marked { OnOk result (marked self.new ≡ world self.old ∷ marked self.old) }
-        ensures seen { OnOk result (seen self.new ≡ seen self.old) };
+        ensures seen { OnOk result (seen self.new ≡ seen self.old) }
+        ensures fixed { OnOk result (fixed self.new ≡ fixed self.old) };
 
     /// Goes back to the newest mark, and takes it away.
     fn go_back(&mut self)
         requires { 0 < length (marked self.old) }
         ensures whole { is_whole self.new }
         ensures marked { marked self.old ≡ world self.new ∷ marked self.new }
-        ensures seen { seen self.new ≡ seen self.old };
+        ensures seen { seen self.new ≡ seen self.old }
+        ensures fixed { fixed self.new ≡ fixed self.old };
 
     /// The number of the world. Where it is not found among those that were noted, it is noted behind them.
     fn number(&mut self) -> Result<u32, Refused>
         ensures whole { OnOk result (is_whole self.new) }
         ensures noted { IfOk result (λ number. IsNoted (seen self.old) (seen self.new) (world self.old) number) }
         ensures world { OnOk result (world self.new ≡ world self.old) }
-        ensures marked { OnOk result (marked self.new ≡ marked self.old) };
+        ensures marked { OnOk result (marked self.new ≡ marked self.old) }
+        ensures fixed { OnOk result (fixed self.new ≡ fixed self.old) };
 }

@@ -63,6 +63,7 @@ pub fn explore<E: Explored>(
     ensures world { OnOk result (E.world explored.new ≡ E.world explored.old) }
     ensures marked { OnOk result (E.marked explored.new ≡ E.marked explored.old) }
     ensures seen { OnOk result (GoesOn (E.seen explored.old) (E.seen explored.new)) }
+    ensures fixed { OnOk result (E.fixed explored.new ≡ E.fixed explored.old) }
 
     ensures circle { IsErrOf result ExploreError.Circle → LeadsBack E.rules }
     ensures many { IsErrOf result ExploreError.TooMany → most < length (E.seen explored.new) }
@@ -104,6 +105,7 @@ fn forward<E: Explored>(explored: &mut E, walk: &mut Walk, most: usize) -> Resul
     ensures whole { OnOk result (E.is_whole explored.new) }
     ensures walk { OnOk result (IsWalk E.rules (E.seen explored.new) (E.world explored.new) (E.marked explored.new) walk.new) }
     ensures seen { OnOk result (GoesOn (E.seen explored.old) (E.seen explored.new)) }
+    ensures fixed { OnOk result (E.fixed explored.new ≡ E.fixed explored.old) }
     ensures bottom { OnOk result (drop (length walk.new.parents.items) (E.world explored.new ∷ E.marked explored.new) ≡ drop (length walk.old.parents.items) (E.world explored.old ∷ E.marked explored.old)) }
     ensures root { OnOk result (walk.new.root ≡ walk.old.root) }
     ensures less { OnOk result (turns_left most walk.new < turns_left most walk.old) }
@@ -149,6 +151,7 @@ fn backward<E: Explored>(explored: &mut E, walk: &mut Walk) -> Result<bool, Expl
     ensures walk { IfOk result (λ over. over ≡ false → IsWalk E.rules (E.seen explored.new) (E.world explored.new) (E.marked explored.new) walk.new) }
     ensures over { IfOk result (λ over. over ≡ true → IsWalked E.rules (E.seen explored.new) walk.new) }
     ensures seen { OnOk result (E.seen explored.new ≡ E.seen explored.old) }
+    ensures fixed { OnOk result (E.fixed explored.new ≡ E.fixed explored.old) }
     ensures bottom { OnOk result (drop (length walk.new.parents.items) (E.world explored.new ∷ E.marked explored.new) ≡ drop (length walk.old.parents.items) (E.world explored.old ∷ E.marked explored.old)) }
     ensures empty { IfOk result (λ over. over ≡ true → length walk.new.parents.items ≡ 0) }
     ensures root { OnOk result (walk.new.root ≡ walk.old.root) }

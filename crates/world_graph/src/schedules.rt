@@ -76,6 +76,7 @@ pub fn census<E: Explored>(
     ensures world { OnOk result (E.world explored.new ≡ E.world explored.old) }
     ensures marked { OnOk result (E.marked explored.new ≡ E.marked explored.old) }
     ensures seen { OnOk result (GoesOn (E.seen explored.old) (E.seen explored.new)) }
+    ensures fixed { OnOk result (E.fixed explored.new ≡ E.fixed explored.old) }
 
     ensures circle { IsErrOf result (ScheduleError.Explore ExploreError.Circle) → LeadsBack E.rules }
     ensures many { IsErrOf result (ScheduleError.Explore ExploreError.TooMany) → most < length (E.seen explored.new) }
@@ -100,6 +101,7 @@ pub fn finals<E: Explored>(
     ensures world { OnOk result (E.world explored.new ≡ E.world explored.old) }
     ensures marked { OnOk result (E.marked explored.new ≡ E.marked explored.old) }
     ensures seen { OnOk result (GoesOn (E.seen explored.old) (E.seen explored.new)) }
+    ensures fixed { OnOk result (E.fixed explored.new ≡ E.fixed explored.old) }
 
     ensures circle { IsErrOf result (ScheduleError.Explore ExploreError.Circle) → LeadsBack E.rules }
     ensures many { IsErrOf result (ScheduleError.Explore ExploreError.TooMany) → most < length (E.seen explored.new) }

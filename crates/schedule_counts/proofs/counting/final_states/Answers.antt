@@ -22,14 +22,17 @@ returns-in-Ok-clause-counted c =
     let seen = c.finals.new.explored.seen in
     let finals = c.in-Ok.finals.items in
     let is : AreFinals point_rules seen (start_point c.args.kind run p.0) finals = subst (λ (x : Point). AreFinals point_rules seen x finals) p.2 c.in-Ok.ensures.finals in
-    let told : c.finals.new.explored.told ≡ c.search.inside.machine.told = ap (λ (v : Searched). v.told) (sym c.search.view_is) in
+    let tables : c.finals.new.explored.tables ≡ c.args.tables.now = c.in-Ok.ensures.fixed ∙ c.in_ok-search.ensures.tables in
+    let shown : c.finals.new.explored.shown ≡ c.search.inside.shown = ap (λ (v : Searched). v.shown) (sym c.search.view_is) in
     let same : c.search.inside.machine.file.run ≡ run =
     ap (λ (v : Searched). v.point.run) c.search.view_is ∙ ap (λ (x : Point). x.run) (c.in-Ok.ensures.world ∙ p.2) in
     let few : run.sessions ≤ 8 = subst (λ (r : Spec). r.sessions ≤ 8) same c.search.invariant.sessions in
     let all = c.orders_are_words.ensures c.args.kind run p.0 seen finals few is in
-    let of : AreStatesOf seen c.finals.new.explored.told finals c.in_ok-states-in-Ok.states.items =
-    subst (λ fs. AreStatesOf seen c.finals.new.explored.told fs c.in_ok-states-in-Ok.states.items) c.as_slice.ensures.value c.in_ok-states-in-Ok.ensures in
-    let states : AreFinalStates c.args.kind run p.0 c.search.inside.machine.told c.in_ok-states-in-Ok.states.items =
-    subst (λ t. AreFinalStates c.args.kind run p.0 t c.in_ok-states-in-Ok.states.items) told
-    (states-counted c.args.kind run p.0 seen finals c.finals.new.explored.told c.in_ok-states-in-Ok.states.items of all (finals-run c.args.kind run p.0 seen finals is)) in
-    (p.0, p.1, states, c.sums_are_exact.ensures c.args.kind run p.0 c.search.inside.machine.told c.in_ok-states-in-Ok.states.items few c.in_ok-search.ensures.few states)
+    let found = c.in_ok-states-in-Ok.states.items in
+    let of : AreStatesOf c.finals.new.explored.tables seen c.finals.new.explored.shown finals found =
+    subst (λ fs. AreStatesOf c.finals.new.explored.tables seen c.finals.new.explored.shown fs found) c.as_slice.ensures.value c.in_ok-states-in-Ok.ensures in
+    let states : AreFinalStates c.args.kind c.args.tables.now run p.0 c.search.inside.shown found =
+    subst (λ ts. AreFinalStates c.args.kind ts run p.0 c.search.inside.shown found) tables
+    (subst (λ ss. AreFinalStates c.args.kind c.finals.new.explored.tables run p.0 ss found) shown
+    (states-counted c.args.kind run p.0 seen finals c.finals.new.explored.tables c.finals.new.explored.shown found of all (finals-run c.args.kind run p.0 seen finals is))) in
+    (p.0, p.1, states, c.sums_are_exact.ensures c.args.kind c.args.tables.now run p.0 c.search.inside.shown found few c.in_ok-search.ensures.few states)

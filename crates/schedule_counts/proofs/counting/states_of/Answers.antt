@@ -15,8 +15,9 @@ loop-place-preserved c =
     let k = c.loop-place.place in
     let f : Final = get_or finals k (record { node = 0; count = 0; least = 0 }) in
     let seen = c.args.search.now.seen in
-    let told = c.args.search.now.told in
+    let tables = c.args.search.now.tables in
+    let shown = c.args.search.now.shown in
     let more : take (k + 1) finals ≡ take k finals ++ f ∷ [] = take_more finals k (record { node = 0; count = 0; least = 0 }) c.loop-place-test.true in
-    subst (λ ss. AreStatesOf seen told (take (k + 1) finals) ss) (sym c.in_ok-push.ensures.items)
-    (subst (λ fs. AreStatesOf seen told fs (c.loop-place.states.items ++ c.state_of.result ∷ [])) (sym more)
-    (states-more seen told (take k finals) c.loop-place.states.items f c.state_of.result c.loop-place.invariant c.state_of.ensures))
+    subst (λ ss. AreStatesOf tables seen shown (take (k + 1) finals) ss) (sym c.in_ok-push.ensures.items)
+    (subst (λ fs. AreStatesOf tables seen shown fs (c.loop-place.states.items ++ c.state_of.result ∷ [])) (sym more)
+    (states-more tables seen shown (take k finals) c.loop-place.states.items f c.state_of.result c.loop-place.invariant c.state_of.ensures))

@@ -3,4 +3,4 @@ use Rattle.schedule_counts.specs.States.{AreStatesOf}
 use Rattle.schedule_counts.proofs.counting.states_of.Given as goal
 
 abbrev pub invariant-loop-place : goal.invariant-loop-place
-invariant-loop-place l = AreStatesOf l.search.seen l.search.told (take l.place l.finals) l.states.items
+invariant-loop-place l = AreStatesOf l.search.tables l.search.seen l.search.shown (take l.place l.finals) l.states.items

@@ -36,6 +36,7 @@ turns-init g c =
       most = λ few. noted-few old new start root c.args.most noted c.if-root-most.false few;
       starts = there;
       root = refl;
+      fixed = c.in_ok-root.ensures.fixed;
       seen = noted-goes-on old new start root noted;
       bottom = bottom-started c.new.result.items (g.E.Explored.world c.number.new.self) start (g.E.Explored.marked c.number.new.self) (g.E.Explored.marked c.args.explored.now) c.new.ensures.items c.in_ok-root.ensures.world
           c.in_ok-root.ensures.marked;
@@ -53,6 +54,7 @@ turns-preserved-in-Continue-branch-3 g c =
       most = λ few. e.most (i.most few);
       starts = seen-later now new c.in_ok-root.root (g.E.Explored.world c.args.explored.now) e.seen i.starts;
       root = e.root ∙ i.root;
+      fixed = e.fixed ∙ i.fixed;
       seen = goes-on (g.E.Explored.seen c.args.explored.now) now new i.seen e.seen;
       bottom = e.bottom ∙ i.bottom;
     }

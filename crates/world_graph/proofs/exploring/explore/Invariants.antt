@@ -11,6 +11,7 @@ invariant-turns g l = record {
   most : length (g.E.Explored.seen l.fn.explored) ≤ l.most → length (g.E.Explored.seen l.explored) ≤ l.most;
   starts : slice_get (g.E.Explored.seen l.explored) l.root ≡ Some (g.E.Explored.world l.fn.explored);
   root : l.walk.root ≡ l.root;
+  fixed : g.E.Explored.fixed l.explored ≡ g.E.Explored.fixed l.fn.explored;
   seen : GoesOn (g.E.Explored.seen l.fn.explored) (g.E.Explored.seen l.explored);
   bottom : drop (length l.walk.parents.items) (g.E.Explored.world l.explored ∷ g.E.Explored.marked l.explored) ≡ g.E.Explored.world l.fn.explored ∷ g.E.Explored.marked l.fn.explored;
 }
