@@ -55,3 +55,9 @@ AnswersSerially tables run order a = option_map answers_of (shows_of_line tables
 pub record AreSerialAnswers (tables : List Table) (run : Spec) (answers : List Answers) : Type 0 where
   pub each : (a : Answers) → Among a answers → (order : List ℕ) × Among order (session_orders run.sessions) × AnswersSerially tables run order a
   pub all : (order : List ℕ) → Among order (session_orders run.sessions) → (a : Answers) × Among a answers × AnswersSerially tables run order a
+
+-- all counts of classes together are the number of the orders
+abbrev pub CountsAddUp : Type 0
+CountsAddUp =
+    (kind : Kind) (tables : List Table) (run : Spec) (cs : List OrderClass) → AreClassesOf kind tables run cs
+    → IsNumberOf (λ rank. (s : Shows) × ShowsAt kind tables run rank s) (total_count cs)

@@ -2,7 +2,9 @@
 #![tactic(auto)]
 
 mod classes;
+mod laws;
 mod serial;
 
 pub use classes::{OrderClass, classes_of};
+pub use laws::counts_add_up;
 pub use serial::serial_answers;
