@@ -8,7 +8,7 @@ use Rattle.fact_books.specs.Books.{Contents}
 use Rattle.fact_books.specs.Entries.{Told}
 use Rattle.order_classes.specs.declared.rows.ClassRow.{ClassRow}
 use Rattle.order_classes.specs.declared.rows.Totals.{Totals}
-use Rattle.order_classes.specs.Classes.{Class, IsClass, AreGroups, in_runs, ranks_in}
+use Rattle.class_stretches.specs.Classes.{Class, IsClass, AreGroups, in_runs, ranks_in}
 use Rattle.class_stretches.specs.declared.stretch.Stretch.{Stretch}
 use Rattle.class_stretches.specs.Stretches.{class_at, end_of, missing_by, IsStretched, runs_with}
 use Rattle.class_stretches.specs.Groups.{class_by, classes_by, classes_from, tally_of_class, ShowsBy}

@@ -8,7 +8,7 @@ use Rattle.order_classes.specs.declared.shows.Shows.{Shows}
 use Rattle.order_classes.specs.declared.rows.ClassRow.{ClassRow}
 use Rattle.order_classes.specs.declared.rows.Letters.{Letters}
 use Rattle.order_classes.specs.Letters.{letter_w, letter_d, letter_e, letter_n}
-use Rattle.order_classes.specs.Classes.{Run, Class, AreApart, AreGroups, in_runs, ranks_in}
+use Rattle.class_stretches.specs.Classes.{Run, Class, AreApart, AreGroups, in_runs, ranks_in}
 use Rattle.class_stretches.specs.Stretches.{end_of, missing_by, runs_with}
 use Rattle.class_stretches.specs.declared.stretch.Stretch.{Stretch}
 use Rattle.book_stretches.specs.Telling.{Tells}

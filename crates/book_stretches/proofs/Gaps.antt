@@ -3,7 +3,7 @@ use Rattle.std.proofs.Common.{◌≡◌, refl, sym, ◌∙◌, subst, ℕ, suc, 
 use Rattle.std.proofs.Common.{Option, Some, None, Result, Ok, Err, IfOk, length, ltb, arith, ⊎_elim}
 use Rattle.std.proofs.lemmas.Bool.{ltb-true, ltb-false, false≢true, or_cases, or_left, or_right}
 use Rattle.std.specs.List.{list_any}
-use Rattle.order_classes.specs.Classes.{Run as Ranks, AreApart, in_runs}
+use Rattle.class_stretches.specs.Classes.{Run as Ranks, AreApart, in_runs}
 use Rattle.class_stretches.specs.Stretches.{class_at, IsStretched, runs_with}
 use Rattle.class_stretches.proofs.Groups.{runs-apart, runs-have, runs-within}
 use Rattle.bound_specs.specs.Spec.{ranks}

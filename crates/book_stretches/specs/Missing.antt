@@ -1,7 +1,7 @@
 -- Which ranks of a book's spec are missing, and which are to be run.
 use Rattle.std.specs.Prelude.{◌≡◌, ◌↔◌, ℕ, ◌<◌, nat_lt, min, max, cond, true, List, [], ◌∷◌, ◌++◌}
 use Rattle.bound_specs.specs.Spec.{ranks}
-use Rattle.order_classes.specs.Classes.{Run as Ranks, AreApart, in_runs}
+use Rattle.class_stretches.specs.Classes.{Run as Ranks, AreApart, in_runs}
 use Rattle.fact_books.specs.declared.run.Run.{Run}
 use Rattle.fact_books.specs.Entries.{Told}
 use Rattle.fact_books.specs.Books.{Contents, HasFact}

@@ -12,7 +12,7 @@ use Rattle.order_classes.specs.declared.rows.Grouping.{Grouping}
 use Rattle.order_classes.specs.declared.rows.Grouping.TheVariants as by
 use Rattle.order_classes.specs.declared.shows.Shows.{Shows}
 use Rattle.order_classes.specs.Asked.{ShowsPassing, AnswersPassing}
-use Rattle.order_classes.specs.Classes.{Class, IsClass}
+use Rattle.class_stretches.specs.Classes.{Class, IsClass}
 use Rattle.class_rows.specs.Pages.{IsClassed, IsRow}
 use Rattle.class_rows.specs.declared.rows.Classed.{Classed}
 use Rattle.class_texts.specs.Pages.{Page}

@@ -1,6 +1,6 @@
 -- Where two groupings of ranks by what they show differ.
 use Rattle.std.specs.Prelude.{◌≡◌, ℕ, ◌<◌, ◌≤◌, Bool, true, false, not, ◌&&◌, nat_lt, cond, Option, Some, None, List, slice_get, bytes_eq}
-use Rattle.order_classes.specs.Classes.{IsNumber}
+use Rattle.order_classes.specs.Numbers.{IsNumberOf}
 use Rattle.class_stretches.specs.declared.stretch.Stretch.{Stretch}
 use Rattle.class_stretches.specs.Stretches.{class_at, end_of}
 use Rattle.class_differences.specs.declared.difference.Difference.{Difference}

@@ -4,7 +4,7 @@ use Rattle.lock_modes.specs.declared.value.Value.{Value}
 use Rattle.bound_statements.specs.declared.statement.Bound.{Bound}
 use Rattle.bound_specs.specs.Spec.{Spec}
 use Rattle.lock_queues.specs.Reasons.{Among}
-use Rattle.order_classes.specs.Classes.{Class, in_runs}
+use Rattle.class_stretches.specs.Classes.{Class, in_runs}
 use Rattle.order_classes.specs.Looks.{Meets}
 
 -- the least rank of the range that is asked for, which is that it shows something, and does not meet it

@@ -7,7 +7,7 @@ use Rattle.bound_specs.specs.Spec.{Spec, ranks}
 use Rattle.order_classes.specs.declared.letters.Filter.{Filter}
 use Rattle.order_classes.specs.declared.shows.Shows.{Shows}
 use Rattle.order_classes.specs.Asked.{ShowsPassing, AnswersPassing, ArePassing, AreAnswering}
-use Rattle.order_classes.specs.Classes.{Class}
+use Rattle.class_stretches.specs.Classes.{Class}
 use Rattle.order_classes.specs.Letters.{Answers}
 use Rattle.order_classes.specs.Looks.{IsLook, look_at, one_row, Meets}
 use Rattle.order_classes.specs.Shows.{shows_at}

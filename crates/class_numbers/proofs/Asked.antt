@@ -10,7 +10,7 @@ use Rattle.order_classes.specs.declared.rows.Grouping.{Grouping}
 use Rattle.order_classes.specs.declared.rows.Grouping.TheVariants as the
 use Rattle.order_classes.specs.declared.shows.Shows.{Shows}
 use Rattle.order_classes.specs.Asked.{ArePassing, ShowsPassing}
-use Rattle.order_classes.specs.Classes.{AreGroups, Class, in_runs}
+use Rattle.class_stretches.specs.Classes.{AreGroups, Class, in_runs}
 use Rattle.order_classes.specs.Looks.{IsLook, Meets}
 use Rattle.class_rows.specs.Numbering.{told_by}
 use Rattle.class_rows.specs.Pages.{AreGroupedBy}

@@ -10,19 +10,20 @@ use Rattle.order_classes.specs.declared.rows.ClassRow.{ClassRow}
 use Rattle.order_classes.specs.declared.rows.Letters.{Letters}
 use Rattle.order_classes.specs.declared.rows.Totals.{Totals}
 use Rattle.order_classes.specs.declared.shows.Shows.{Shows}
-use Rattle.order_classes.specs.Classes.{AreApart, AreGroups, Class, Run, in_run, in_runs, ranks_in}
+use Rattle.class_stretches.specs.Classes.{AreApart, AreGroups, Class, Run, in_run, in_runs, ranks_in}
 use Rattle.order_classes.specs.Letters.{letter_w, letter_d, letter_e, letter_n}
-use Rattle.order_classes.proofs.Runs.{from-low, run-from}
+use Rattle.class_stretches.proofs.Runs.{from-low, run-from}
 use Rattle.class_stretches.specs.Stretches.{missing_by}
 use Rattle.class_stretches.specs.declared.missing.Missing.{Missing}
 use Rattle.book_stretches.specs.Telling.{Tells}
 use Rattle.book_rows.specs.Classes.{AreMissing, IsClassedBook, IsRow, letters_of, told_alone}
 use Rattle.book_rows.specs.Totals.{orders_with}
 use Rattle.book_rows.specs.declared.classed.BookClasses.{BookClasses}
-use Rattle.class_numbers.specs.Numbers.{IsLeastOf, IsNumberOf}
+use Rattle.order_classes.specs.Numbers.{IsLeastOf, IsNumberOf}
 use Rattle.class_numbers.specs.Books.{AreMissingTold, AreTold, IsMissing, IsRowTold, IsTold, IsToldWith}
-use Rattle.class_numbers.proofs.Counts.{number-same}
-use Rattle.class_numbers.proofs.Picked.{InPicked, Tells as Says, class-ranks, groups-number, total, zip-all, zip-map}
+use Rattle.spec_classes.proofs.Counts.{number-same}
+use Rattle.class_stretches.proofs.Counted.{class-number}
+use Rattle.class_numbers.proofs.Picked.{InPicked, Tells as Says, groups-number, total, zip-all, zip-map}
 
 -- ---- what is missing
 
@@ -36,7 +37,7 @@ module _ (end : ℕ) (run : Run) (runs : List Run) (apart : AreApart 0 (run ∷ 
 
   runs-number : IsNumberOf (λ r. in_runs (run ∷ runs) r ≡ true) (ranks_in (run ∷ runs))
   runs-number =
-      class-ranks {A = ℕ} (λ r a. Unit {0}) 0 end (record { least = run.first; count = ranks_in (run ∷ runs); runs = run ∷ runs; shows = 0 })
+      class-number {A = ℕ} (λ r a. Unit {0}) 0 end (record { least = run.first; count = ranks_in (run ∷ runs); runs = run ∷ runs; shows = 0 })
       (record {
         apart = apart;
         within = λ r h. (omega arith, inside r h, tt);
@@ -107,7 +108,7 @@ module _ (book : Contents) (one : (r : ℕ) (o p : Told) → r < ranks book.file
   row-told c row m is = record {
     count = subst (IsNumberOf (IsToldWith book (λ o. o ≡ row.shows.told))) (sym is.count)
         (number-same (λ r. in_runs c.runs r ≡ true) (IsToldWith book (λ o. o ≡ row.shows.told)) c.count there back
-        (class-ranks (Tells book) 0 (ranks book.file.run) c (groups.each c m)));
+        (class-number (Tells book) 0 (ranks book.file.run) c (groups.each c m)));
     least = subst (IsLeastOf (IsToldWith book (λ o. o ≡ row.shows.told))) (sym is.least)
         (record {
           is_so = there c.least (groups.each c m).has_least;

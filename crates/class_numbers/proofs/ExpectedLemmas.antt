@@ -13,7 +13,7 @@ use Rattle.order_classes.specs.declared.letters.Filter.{Filter}
 use Rattle.order_classes.specs.declared.rows.ClassRow.{ClassRow}
 use Rattle.order_classes.specs.declared.rows.Grouping.{Grouping}
 use Rattle.order_classes.specs.declared.shows.Shows.{Shows}
-use Rattle.order_classes.specs.Classes.{AreGroups, Class, LeastsRise, in_runs}
+use Rattle.class_stretches.specs.Classes.{AreGroups, Class, LeastsRise, in_runs}
 use Rattle.order_classes.specs.Looks.{IsLook, Meets, look_at, one_row}
 use Rattle.order_classes.proofs.Unique.{later}
 use Rattle.class_rows.specs.Pages.{IsClassed, IsRow}

@@ -1,4 +1,3 @@
-pub mod Counts
 pub mod Picked
 pub mod Asked
 pub mod ExpectedLemmas

@@ -1,13 +1,18 @@
 -- The counts of some of the classes of ranks, added up, are the number of the ranks of these.
-use Rattle.std.proofs.Common.{◌≡◌, ◌↔◌, refl, ap, subst, ℕ, ◌+◌, ◌<◌, Bool, true, false, cond, List, [], ◌∷◌, map, All, ◌⊎◌, inl, inr, ⊎_elim, arith}
+use Rattle.std.proofs.Common.{◌≡◌, ◌↔◌, refl, sym, ap, subst, ℕ, ◌+◌, ◌<◌, Bool, true, false, cond, List, [], ◌∷◌, map, All, ◌⊎◌, inl, inr, ⊎_elim, arith}
 use Rattle.std.proofs.lemmas.List.Elements.{All-cons, All-nil}
 use Rattle.std.specs.List.{AllZip}
 use Rattle.lock_queues.specs.Reasons.{Among}
-use Rattle.order_classes.specs.Classes.{Class, AreGroups, IsClass, IsNumber, LeastsRise, in_runs}
-use Rattle.order_classes.proofs.Counted.{class-number}
-use Rattle.order_classes.proofs.Unique.{later}
-use Rattle.class_numbers.specs.Numbers.{IsNumberOf}
-use Rattle.class_numbers.proofs.Counts.{number-none, number-same, number-sum}
+use Rattle.class_stretches.specs.Classes.{AllLater, AreGroups, Class, IsClass, LeastsRise, in_runs}
+use Rattle.order_classes.specs.Numbers.{IsNumberOf}
+use Rattle.class_stretches.proofs.Counted.{class-number}
+use Rattle.order_classes.specs.Numbers.{IsNumberOf}
+use Rattle.spec_classes.proofs.Counts.{number-none, number-same, number-sum}
+
+later : {A : Type 0} (n : ℕ) (cs : List (Class A)) (c : Class A) → AllLater n cs → Among c cs → n < c.least
+later n [] c a m = absurd m
+later n (d ∷ cs) c a (inl e) = subst (λ (x : Class A). n < x.least) (sym e) a.0
+later n (d ∷ cs) c a (inr m) = later n cs c a.1 m
 
 -- of each item of a list the test is so exactly where it is so of the class
 abbrev pub Tells : {A : Type 0} → (Class A → Type 0) → Class A → Bool → Type 0
@@ -38,12 +43,6 @@ zip-all R P [] (y ∷ ys) f z = absurd z
 zip-all R P (x ∷ xs) [] f z = absurd z
 zip-all R P (x ∷ xs) (y ∷ ys) f z = All-cons P y ys (f x y (inl refl) z.0) (zip-all R P xs ys (λ a b m. f a b (inr m)) z.1)
 
-pub class-ranks : {A : Type 0} (show : ℕ → A → Type 0) (first end : ℕ) (c : Class A) → IsClass show first end c
-    → IsNumberOf (λ r. in_runs c.runs r ≡ true) c.count
-class-ranks show first end c is =
-    let own : IsNumber (in_runs c.runs) c.count = class-number show first end c is in
-    record { ranks = own.ranks; rise = own.rise; has = own.has; count = own.count }
-
 module _ {A : Type 0} (show : ℕ → A → Type 0) (first end : ℕ) (one : (r : ℕ) (a b : A) → r < end → show r a → show r b → a ≡ b) where
   -- no rank is in two
   pub apart : (cs : List (Class A)) → AreGroups show first end cs → (c d : Class A) → Among c cs → Among d cs → (r : ℕ)
@@ -67,7 +66,7 @@ module _ {A : Type 0} (show : ℕ → A → Type 0) (first end : ℕ) (one : (r 
           (λ r p. ⊎_elim (λ h. (c, inl refl, is.0 refl, h)) (λ q. (q.0, inr q.1, q.2, q.3)) p)
           (λ r p. back r p.0 p.1 p.2 p.3)
           (number-sum (λ r. in_runs c.runs r ≡ true) (InPicked Picks cs) c.count (total cs bs)
-          (class-ranks show first end c (each c (inl refl))) rec
+          (class-number show first end c (each c (inl refl))) rec
           (λ r h q.
           let same : c ≡ q.0 = alone c q.0 (inl refl) (inr q.1) r h q.3 in
           let lt : c.least < q.0.least = later c.least cs q.0 rise.0 q.1 in

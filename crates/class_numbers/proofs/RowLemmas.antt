@@ -7,7 +7,7 @@ use Rattle.order_classes.specs.declared.letters.Filter.{Filter}
 use Rattle.order_classes.specs.declared.rows.ClassRow.{ClassRow}
 use Rattle.order_classes.specs.declared.rows.Grouping.{Grouping}
 use Rattle.order_classes.specs.declared.shows.Shows.{Shows}
-use Rattle.order_classes.specs.Classes.{AreGroups, Class, in_runs}
+use Rattle.class_stretches.specs.Classes.{AreGroups, Class, in_runs}
 use Rattle.class_rows.specs.Numbering.{told_by}
 use Rattle.class_rows.specs.Pages.{IsClassed, IsRow}
 use Rattle.class_rows.specs.declared.rows.Classed.{Classed}

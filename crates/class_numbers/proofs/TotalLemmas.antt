@@ -10,7 +10,7 @@ use Rattle.order_classes.specs.declared.rows.Letters.{Letters}
 use Rattle.order_classes.specs.declared.rows.Total.{Total}
 use Rattle.order_classes.specs.declared.shows.Shows.{Shows}
 use Rattle.order_classes.specs.Asked.{ArePassing, ShowsPassing}
-use Rattle.order_classes.specs.Classes.{Class}
+use Rattle.class_stretches.specs.Classes.{Class}
 use Rattle.order_classes.specs.Letters.{IsR, LetterR, letter_w, letter_d, letter_e, letter_n, letter_s}
 use Rattle.class_rows.specs.Pages.{AreLetters, IsClassed, has_r, letters_of, orders_with, total as total_by}
 use Rattle.class_rows.specs.declared.rows.Classed.{Classed}

@@ -6,7 +6,7 @@ use Rattle.bound_specs.specs.Spec.{Spec, ranks}
 use Rattle.order_classes.specs.declared.letters.Filter.{Filter}
 use Rattle.order_classes.specs.declared.shows.Shows.{Shows}
 use Rattle.order_classes.specs.Asked.{ShowsPassing}
-use Rattle.order_classes.specs.Classes.{RiseFrom}
+use Rattle.order_classes.specs.Numbers.{RiseFrom}
 use Rattle.order_classes.specs.Looks.{Meets}
 use Rattle.asked_classes.specs.declared.expectations.AskedExpectation.{AskedExpectation}
 

@@ -2,8 +2,8 @@
 use Rattle.std.proofs.Common.{◌≡◌, refl, sym, ap, ◌∙◌, subst, ℕ, zero, suc, ◌<◌, ◌≤◌, true, Option, Some, None, List, [], ◌∷◌, get_or, inl, inr, arith}
 use Rattle.std.specs.List.{slice_get}
 use Rattle.lock_queues.specs.Reasons.{Among}
-use Rattle.order_classes.specs.Classes.{in_runs, ranks_in, Class, IsClass, AllLater, LeastsRise, IsClasses, AreGroups}
-use Rattle.order_classes.proofs.Runs.{bool-same, runs-same}
+use Rattle.class_stretches.specs.Classes.{in_runs, ranks_in, Class, IsClass, AllLater, LeastsRise, IsClasses, AreGroups}
+use Rattle.class_stretches.proofs.Runs.{bool-same, runs-same}
 use Rattle.order_classes.proofs.Unique.{lists-same}
 
 module _ {A : Type 0} where

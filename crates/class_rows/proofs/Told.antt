@@ -18,10 +18,10 @@ use Rattle.order_classes.specs.declared.rows.Grouping.{Grouping}
 use Rattle.order_classes.specs.declared.rows.Grouping.TheVariants as the
 use Rattle.order_classes.specs.Shows.{shows_at}
 use Rattle.order_classes.specs.Letters.{IsR}
-use Rattle.order_classes.specs.Classes.{in_run, in_runs, AreApart, Class, AreGroups, total_in}
+use Rattle.class_stretches.specs.Classes.{in_run, in_runs, AreApart, Class, AreGroups, total_in}
 use Rattle.order_classes.specs.Grouping.{ShowsAt, AreClasses}
 use Rattle.order_classes.specs.Asked.{Passes, ShowsPassing, ArePassing}
-use Rattle.order_classes.proofs.Runs.{run-from}
+use Rattle.class_stretches.proofs.Runs.{run-from}
 use Rattle.order_classes.proofs.Unique.{classes-by}
 use Rattle.order_classes.proofs.Adding.{add-up}
 use Rattle.class_stretches.specs.declared.stretch.Stretch.{Stretch}

@@ -11,7 +11,7 @@ use Rattle.order_classes.specs.declared.rows.ClassRow.{ClassRow}
 use Rattle.order_classes.specs.declared.letters.Filter.{Filter}
 use Rattle.order_classes.specs.Shows.{shows_at}
 use Rattle.order_classes.specs.Letters.{letter_w, letter_d, letter_e, letter_n, letter_s, IsR}
-use Rattle.order_classes.specs.Classes.{Class, in_runs}
+use Rattle.class_stretches.specs.Classes.{Class, in_runs}
 use Rattle.order_classes.specs.Asked.{ArePassing, AreAnswering}
 use Rattle.order_classes.specs.declared.rows.Grouping.{Grouping}
 use Rattle.order_classes.specs.declared.rows.Grouping.TheVariants as by

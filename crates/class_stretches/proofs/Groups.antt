@@ -5,7 +5,7 @@ use Rattle.std.specs.List.{slice_get}
 use Rattle.std.proofs.lemmas.Bool.{leb-true, ltb-true, le-leb, lt-ltb, and_parts, and_from, or_cases, or_left, or_right, eqb-true, eqb-false}
 use Rattle.std.proofs.lemmas.Option.{slice_get_within}
 use Rattle.lock_queues.specs.Reasons.{Among}
-use Rattle.order_classes.specs.Classes.{Run, in_run, in_runs, ranks_in, AreApart, Class, IsClass, AllLater, LeastsRise, IsClasses, AreGroups}
+use Rattle.class_stretches.specs.Classes.{Run, in_run, in_runs, ranks_in, AreApart, Class, IsClass, AllLater, LeastsRise, IsClasses, AreGroups}
 use Rattle.class_stretches.specs.declared.stretch.Stretch.{Stretch}
 use Rattle.class_stretches.specs.declared.tally.Tally.{Tally}
 use Rattle.class_stretches.specs.Stretches.{class_at, end_from, end_of, same_class, BeginsOther, AreStretches, MayCome, with_class, AreInOrder, Stretched, IsStretched, runs_with, least_of, tally_of, AreTallies}

@@ -1,3 +1,5 @@
+pub mod Runs
+pub mod Counted
 pub mod Ranks
 pub mod Lists
 pub mod Places

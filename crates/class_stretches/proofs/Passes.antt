@@ -4,7 +4,7 @@ use Rattle.std.proofs.Common.{zero, suc, ◌==◌, ⊎_elim, arith, add-one, app
 use Rattle.std.proofs.lemmas.List.{map-append}
 use Rattle.std.proofs.lemmas.Bool.{eqb-true, eqb-false}
 use Rattle.std.proofs.Math.ListN.{drop_of_length-le}
-use Rattle.order_classes.specs.Classes.{Run, ranks_in}
+use Rattle.class_stretches.specs.Classes.{Run, ranks_in}
 use Rattle.class_stretches.specs.declared.stretch.Stretch.{Stretch}
 use Rattle.class_stretches.specs.declared.rank_run.RankRun.{RankRun}
 use Rattle.class_stretches.specs.declared.tally.Tally.{Tally}

@@ -3,7 +3,7 @@ use Rattle.std.proofs.Common.{◌≡◌, refl, sym, ap, ◌∙◌, subst, ℕ, z
 use Rattle.std.proofs.Common.{⊎_elim}
 use Rattle.std.specs.List.{slice_get}
 use Rattle.std.proofs.lemmas.Bool.{eqb-true, eqb-false}
-use Rattle.order_classes.specs.Classes.{ranks_in}
+use Rattle.class_stretches.specs.Classes.{ranks_in}
 use Rattle.class_stretches.specs.declared.stretch.Stretch.{Stretch}
 use Rattle.class_stretches.specs.declared.tally.Tally.{Tally}
 use Rattle.class_stretches.specs.Stretches.{same_class, MayCome, with_class, AreInOrder, runs_with, tally_of, AreTallies}

@@ -1,7 +1,8 @@
 -- Classes of ranks by their stretches, and what each of them shows.
 use Rattle.std.specs.Prelude.{◌≡◌, ℕ, suc, ◌<◌, ◌≤◌, Bool, true, false, ◌&&◌, nat_lt, Option, Some, None, List, [], ◌∷◌, length, map}
 use Rattle.std.specs.List.{slice_get}
-use Rattle.order_classes.specs.Classes.{Class, ranks_in, IsClasses, AreGroups, IsNumber}
+use Rattle.class_stretches.specs.Classes.{Class, ranks_in, IsClasses, AreGroups}
+use Rattle.order_classes.specs.Numbers.{IsNumberOf}
 use Rattle.class_stretches.specs.declared.stretch.Stretch.{Stretch}
 use Rattle.class_stretches.specs.declared.tally.Tally.{Tally}
 use Rattle.class_stretches.specs.declared.missing.Missing.{Missing}
@@ -58,7 +59,7 @@ is_missing ss r = nat_lt r (end_of ss) && same_class None (class_at ss r)
 
 -- the missing ranks are so many, and this is the least of them
 pub record AreMissingRanks (ss : List Stretch) (m : Missing) : Type 0 where
-  pub number : IsNumber (is_missing ss) m.ranks
+  pub number : IsNumberOf (λ r. is_missing ss r ≡ true) m.ranks
   pub there : is_missing ss m.first ≡ true
   pub least : (r : ℕ) → is_missing ss r ≡ true → m.first ≤ r
 

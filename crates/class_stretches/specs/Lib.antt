@@ -1,3 +1,4 @@
+pub mod Classes
 pub mod Stretches
 pub mod Growing
 pub mod Copying

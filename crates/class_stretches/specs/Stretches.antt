@@ -1,7 +1,7 @@
 -- Stretches of ranks with the numbers of their classes.
 use Rattle.std.specs.Prelude.{◌≡◌, ℕ, ◌+◌, ◌-◌, ◌<◌, ◌≤◌, ◌==◌, Bool, true, false, nat_lt, cond, Option, Some, None, List, [], ◌∷◌, length, get_or, map}
 use Rattle.std.specs.List.{slice_get}
-use Rattle.order_classes.specs.Classes.{Run, ranks_in}
+use Rattle.class_stretches.specs.Classes.{Run, ranks_in}
 use Rattle.class_stretches.specs.declared.stretch.Stretch.{Stretch}
 use Rattle.class_stretches.specs.declared.tally.Tally.{Tally}
 use Rattle.class_stretches.specs.declared.rank_run.RankRun.{RankRun}

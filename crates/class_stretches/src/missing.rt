@@ -1,7 +1,7 @@
 //! Ranks that are in no known class.
 
 ghost use Rattle.std.specs.Prelude.{◌≡◌, ◌+◌, ◌<◌, ◌≤◌, None, [], ◌∷◌};
-ghost use Rattle.order_classes.specs.Classes.{ranks_in};
+ghost use Rattle.class_stretches.specs.Classes.{ranks_in};
 ghost use Rattle.class_stretches.specs.Stretches.{AreStretches, first_of, runs_with};
 
 use crate::list::is_same;

@@ -1,5 +1,5 @@
 -- Worked classes, computed.
-use Rattle.std.proofs.Common.{◌≡◌, refl, ℕ, Bool, true, false, ◌==◌, List, [], ◌∷◌, map, Option, Some, None, option_map}
+use Rattle.std.proofs.Common.{◌≡◌, refl, ℕ, Bool, true, false, List, [], ◌∷◌, map, Option, Some, None, option_map}
 use Rattle.finite_maps.specs.Map.{get, insert, keep, remove, entries, empty}
 use Rattle.statement_evaluation.specs.Effect.{effect}
 use Rattle.row_tables.specs.Overlay.{lay}
@@ -20,10 +20,7 @@ use Rattle.order_classes.specs.declared.shows.Rest.TheVariants.{HasEnded, IsOpen
 use Rattle.order_classes.specs.declared.shows.Shows.{Shows}
 use Rattle.order_classes.specs.Shows.{shows_of_line, shows_at}
 use Rattle.order_classes.specs.Letters.{Answers, answers_of, answers_at, session_orders, serial_line, letter_w, letter_d, letter_e, letter_n, letter_s}
-use Rattle.order_classes.specs.Looks.{look_at, one_row}
-use Rattle.order_classes.specs.Classes.{Run}
-use Rattle.order_classes.specs.Growing.{grown}
-use Rattle.order_classes.specs.Copying.{copied}
+use Rattle.order_classes.specs.Looks.{look_behind, one_row}
 
 abbrev shown : Spec → ℕ → Option (List (List Event) × List (List Tuple) × List Rest)
 shown spec r = option_map (λ (s : Shows). (s.told, map tuples_of s.left, s.rests)) (shows_at (no_table ∷ []) spec r)
@@ -51,7 +48,7 @@ blind_1 = refl
 abbrev sum : Bound
 sum = Select 0 None Always [] (Aggregates (Sum 1 ∷ [])) shares
 
-blind_sum : (look_at blind sum 0 ≡ Some (one_row (number 26 ∷ []))) × (look_at blind sum 1 ≡ Some (one_row (number 25 ∷ [])))
+blind_sum : (look_behind blind sum (0 ∷ 1 ∷ []) ≡ Some (one_row (number 26 ∷ []))) × (look_behind blind sum (1 ∷ 0 ∷ []) ≡ Some (one_row (number 25 ∷ [])))
 unfolding get insert keep remove entries empty effect lay
 blind_sum = (refl, refl)
 
@@ -140,17 +137,3 @@ ring_letters = refl
 
 orders_of_3 : session_orders 3 ≡ (0 ∷ 1 ∷ 2 ∷ []) ∷ (0 ∷ 2 ∷ 1 ∷ []) ∷ (1 ∷ 0 ∷ 2 ∷ []) ∷ (1 ∷ 2 ∷ 0 ∷ []) ∷ (2 ∷ 0 ∷ 1 ∷ []) ∷ (2 ∷ 1 ∷ 0 ∷ []) ∷ []
 orders_of_3 = refl
-
--- ---- by runs
-
-abbrev run : ℕ → ℕ → Run
-run a b = record { first = a; end = b }
-
-abbrev test : ℕ → ℕ → Bool
-test a b = a == b
-
--- ranks 0 and 1 show 7, 2 to 4 show 8, 5 shows 7; 6 to 9 show what 1 to 4 do, and 10 shows 8
-runs_grow : grown test 10 11 8 (copied 1 5 5 (grown test 5 6 7 (grown test 2 5 8 (grown test 0 2 7 []))))
-    ≡ record { least = 0; count = 4; runs = run 0 2 ∷ run 5 7 ∷ []; shows = 7 }
-    ∷ record { least = 2; count = 7; runs = run 2 5 ∷ run 7 11 ∷ []; shows = 8 } ∷ []
-runs_grow = refl

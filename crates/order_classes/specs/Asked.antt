@@ -3,17 +3,15 @@ use Rattle.std.specs.Prelude.{◌≡◌, ℕ, Bool, true, false, ◌&&◌, not, 
 use Rattle.std.specs.List.{list_all}
 use Rattle.events.specs.declared.event.Event.{Event}
 use Rattle.binding_model.specs.declared.tables.Table.{Table}
-use Rattle.bound_specs.specs.Spec.{Spec, ranks}
+use Rattle.bound_specs.specs.Spec.{Spec}
 use Rattle.order_classes.specs.declared.shows.Shows.{Shows}
 use Rattle.order_classes.specs.declared.letters.Sign.{Sign}
 use Rattle.order_classes.specs.declared.letters.Sign.TheVariants as sign
 use Rattle.order_classes.specs.declared.letters.Test.{Test}
 use Rattle.order_classes.specs.declared.letters.Test.TheVariants as the
 use Rattle.order_classes.specs.declared.letters.Filter.{Filter}
-use Rattle.order_classes.specs.Shows.{shows_at}
 use Rattle.order_classes.specs.Letters.{is_wait, is_deadlock, is_other_error, is_unsent, letter_w, letter_d, letter_e, letter_n, letter_s, tells_to}
-use Rattle.order_classes.specs.Letters.{Answers, answers_of, IsR}
-use Rattle.order_classes.specs.Classes.{Class, AreGroups}
+use Rattle.order_classes.specs.Letters.{IsR}
 
 -- the events that a letter tells of
 abbrev pub is_sign : Sign → Event → Bool
@@ -45,19 +43,3 @@ pass_all odd fs s = list_all (λ f. passes_filter odd f s) fs
 -- what is shown passes all filters; what is not told of R holds of nothing
 abbrev pub Passes : List Table → Spec → List Filter → Shows → Type 0
 Passes tables spec filters s = (r : Option Bool) × IsR tables spec s r × (pass_all (unwrap_or r false) filters s ≡ true)
-
--- a rank shows this, and passes
-abbrev pub ShowsPassing : List Table → Spec → List Filter → ℕ → Shows → Type 0
-ShowsPassing tables spec filters r s = (shows_at tables spec r ≡ Some s) × Passes tables spec filters s
-
--- a rank that passes answers so
-abbrev pub AnswersPassing : List Table → Spec → List Filter → ℕ → Answers → Type 0
-AnswersPassing tables spec filters r a = (s : Shows) × ShowsPassing tables spec filters r s × (a ≡ answers_of s)
-
--- the classes of all ranks that pass, by what they show
-abbrev pub ArePassing : List Table → Spec → List Filter → List (Class Shows) → Type 0
-ArePassing tables spec filters cs = AreGroups (ShowsPassing tables spec filters) 0 (ranks spec) cs
-
--- and by what they answer
-abbrev pub AreAnswering : List Table → Spec → List Filter → List (Class Answers) → Type 0
-AreAnswering tables spec filters cs = AreGroups (AnswersPassing tables spec filters) 0 (ranks spec) cs

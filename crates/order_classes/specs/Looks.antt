@@ -1,5 +1,5 @@
 -- What a SELECT sees of the rows that are left, and what is expected of it.
-use Rattle.std.specs.Prelude.{◌≡◌, ℕ, ◌<◌, ◌≤◌, List, [], ◌∷◌, length, get_or, Option, Some, None, option_map}
+use Rattle.std.specs.Prelude.{◌≡◌, ℕ, ◌<◌, List, [], ◌∷◌, length, get_or, Option, Some, None, option_map}
 use Rattle.lock_modes.specs.declared.value.Value.{Value}
 use Rattle.events.specs.declared.event.Event.TheVariants.{Row as RowEvent, Rows}
 use Rattle.bound_statements.specs.declared.statement.Bound.{Bound}
@@ -7,11 +7,9 @@ use Rattle.bound_statements.specs.declared.statement.Bound.TheVariants.{Select}
 use Rattle.statement_evaluation.specs.Effect.{Effect, Gives, effect}
 use Rattle.binding_model.specs.Tables.{no_table, key_column}
 use Rattle.binding_model.specs.declared.tables.Table.{Table}
-use Rattle.bound_specs.specs.Spec.{Spec, line_of}
+use Rattle.bound_specs.specs.Spec.{Spec}
 use Rattle.machine_model.specs.World.{World}
-use Rattle.order_classes.specs.declared.shows.Shows.{Shows}
 use Rattle.order_classes.specs.Shows.{world_of_line}
-use Rattle.order_classes.specs.Classes.{Class}
 
 -- a row is read by its key alone only where the table has one
 abbrev pub HasKeyFor : Option ℕ → Option Value → Type 0
@@ -27,24 +25,14 @@ IsLook tables _ = ⊥
 abbrev pub look_in : Bound → World → Effect
 look_in st w = effect st w.rows
 
-abbrev pub look_at : Spec → Bound → ℕ → Option Effect
-look_at spec st r = option_map (look_in st) (world_of_line spec (line_of spec r))
+-- in the world behind a line, where the spec starts
+abbrev pub look_behind : Spec → Bound → List ℕ → Option Effect
+look_behind spec st ks = option_map (look_in st) (world_of_line spec ks)
 
 -- one row with these values
 abbrev pub one_row : List Value → Effect
 one_row vs = Gives (RowEvent vs ∷ Rows 1 ∷ []) []
 
--- the SELECT sees one row with these values where the rank ends
-abbrev pub Meets : Spec → Bound → List Value → ℕ → Type 0
-Meets spec st vs r = look_at spec st r ≡ Some (one_row vs)
-
--- a class looks so: its least rank does
-abbrev pub LooksLike : Spec → Bound → Class Shows → Effect → Type 0
-LooksLike spec st c e = look_at spec st c.least ≡ Some e
-
--- the least rank of the range that does not meet it
-pub record IsFirstMiss (spec : Spec) (st : Bound) (vs : List Value) (first end r : ℕ) : Type 0 where
-  pub from : first ≤ r
-  pub less : r < end
-  pub misses : Meets spec st vs r → ⊥
-  pub below : (q : ℕ) → first ≤ q → q < r → Meets spec st vs q
+-- the SELECT sees one row with these values behind the line
+abbrev pub Meets : Spec → Bound → List Value → List ℕ → Type 0
+Meets spec st vs ks = look_behind spec st ks ≡ Some (one_row vs)

@@ -1,7 +1,11 @@
 -- Numbers of orders, which are known by their ranks.
-use Rattle.std.specs.Prelude.{◌≡◌, ◌↔◌, ℕ, ◌≤◌, List, length}
+use Rattle.std.specs.Prelude.{◌≡◌, ◌↔◌, ℕ, suc, ◌≤◌, List, [], ◌∷◌, length}
 use Rattle.lock_queues.specs.Reasons.{Among}
-use Rattle.order_classes.specs.Classes.{RiseFrom}
+
+-- the numbers rise from the first on
+abbrev pub RiseFrom : ℕ → List ℕ → Type 0
+RiseFrom low [] = Unit {0}
+RiseFrom low (r ∷ rs) = (low ≤ r) × RiseFrom (suc r) rs
 
 -- it is so of this many ranks: these, each once, and no others
 pub record IsNumberOf (IsSo : ℕ → Type 0) (n : ℕ) : Type 0 where

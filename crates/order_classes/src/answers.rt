@@ -3,10 +3,10 @@
 ghost use Rattle.std.specs.Prelude.{◌≡◌, ◌++◌, ◌∷◌, [], map, IfOk, OnOk};
 ghost use Rattle.order_classes.specs.Letters.{answers_in, answers_of, is_answer};
 
+use crate::shows::{Shows, copied_tables};
 use events::{Event, Transcript};
 use finite_maps::Fork;
 use lock_modes::{Row, Value};
-use crate::shows::{Shows, copied_tables};
 use sqlite_items::Items;
 use std::alloc::{AllocError, Global};
 use transcripts::Outcome;

@@ -7,8 +7,7 @@ use finite_maps::Fork;
 use lock_modes::{Row, Value};
 use sqlite_items::Items;
 use std::alloc::{AllocError, Global};
-use std::hash::{FoldHasher, Hasher};
-use transcripts::{Outcome, fingerprint, hash_values};
+use transcripts::Outcome;
 
 /// How a session stands at the end of an order.
 #[derive(Clone, Copy)]
@@ -97,35 +96,6 @@ impl Shows {
         let left = copied_tables(alloc, self.left.as_slice())?;
         let rests = copied_rests(alloc, self.rests.as_slice())?;
         Ok(Shows { told, left, rests })
-    }
-
-    /// A number that equals share, and others seldom.
-    pub fn fingerprint(&self) -> u64 {
-        let mut hasher = FoldHasher::default();
-        hasher.write_u64(fingerprint(&self.told));
-        for rows in self.left.as_slice() {
-            hash_rows(rows.as_slice(), &mut hasher);
-        }
-        for rest in self.rests.as_slice() {
-            hasher.write_u64(number_of(*rest));
-        }
-        hasher.finish()
-    }
-}
-
-fn hash_rows(rows: &[(Value, Row)], hasher: &mut FoldHasher) {
-    hasher.write_usize(rows.len());
-    for entry in rows {
-        hash_values(entry.1.values(), hasher);
-    }
-}
-
-fn number_of(rest: Rest) -> u64 {
-    match rest {
-        Rest::HasEnded => 0,
-        Rest::IsOpen => 1,
-        Rest::HasFailed => 2,
-        Rest::StillWaits => 3,
     }
 }
 

@@ -4,8 +4,9 @@ use Rattle.std.proofs.Common.{⊎_elim, arith}
 use Rattle.std.proofs.lemmas.Bool.{or_cases, or_left, or_right}
 use Rattle.lock_queues.specs.Reasons.{Among}
 use Rattle.lock_queues.proofs.Edges.{among-left, among-right, among-parts}
-use Rattle.order_classes.specs.Classes.{Run, in_run, in_runs, ranks_in, AreApart, RiseFrom, IsNumber, Class, IsClass}
-use Rattle.order_classes.proofs.Runs.{run-parts, run-from}
+use Rattle.class_stretches.specs.Classes.{Run, in_run, in_runs, ranks_in, AreApart, Class, IsClass}
+use Rattle.order_classes.specs.Numbers.{IsNumberOf, RiseFrom}
+use Rattle.class_stretches.proofs.Runs.{run-parts, run-from}
 
 abbrev span : ℕ → ℕ → List ℕ
 span first zero = []
@@ -74,7 +75,7 @@ in-listed (run ∷ runs) r e =
     (in-span run.first (run.end - run.first) r p0 (omega (arith, p0, p1)))))
     (λ h. among-right r (span run.first (run.end - run.first)) (listed runs) (in-listed runs r h)) (or_cases (in_run run r) (in_runs runs r) e)
 
-pub class-number : {A : Type 0} (show : ℕ → A → Type 0) (first end : ℕ) (c : Class A) → IsClass show first end c → IsNumber (in_runs c.runs) c.count
+pub class-number : {A : Type 0} (show : ℕ → A → Type 0) (first end : ℕ) (c : Class A) → IsClass show first end c → IsNumberOf (λ r. in_runs c.runs r ≡ true) c.count
 class-number show first end c is = record {
   ranks = listed c.runs;
   rise = listed-rise 0 c.runs is.apart;

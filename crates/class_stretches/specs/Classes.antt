@@ -1,5 +1,5 @@
 -- Classes of ranks by what they show.
-use Rattle.std.specs.Prelude.{◌≡◌, ◌↔◌, length, ℕ, suc, ◌+◌, ◌-◌, ◌<◌, ◌≤◌, Bool, true, false, ◌&&◌, ◌||◌, nat_le, nat_lt, cond, List, [], ◌∷◌}
+use Rattle.std.specs.Prelude.{◌≡◌, ◌↔◌, length, ℕ, suc, ◌+◌, ◌-◌, ◌<◌, ◌≤◌, Bool, true, false, ◌&&◌, ◌||◌, nat_le, nat_lt, List, [], ◌∷◌}
 use Rattle.lock_queues.specs.Reasons.{Among}
 
 -- ranks from the first up to but not the end
@@ -47,33 +47,9 @@ abbrev pub LeastsRise : {A : Type 0} → List (Class A) → Type 0
 LeastsRise [] = Unit {0}
 LeastsRise (c ∷ cs) = AllLater c.least cs × LeastsRise cs
 
--- the classes of the ranks from the first up to but not the end: equal within, together the range, two that show the same are one, in order
-pub record IsClasses {A : Type 0} (show : ℕ → A → Type 0) (first end : ℕ) (cs : List (Class A)) : Type 0 where
-  pub each : (c : Class A) → Among c cs → IsClass show first end c
-  pub together : (r : ℕ) → first ≤ r → r < end → (c : Class A) × Among c cs × (in_runs c.runs r ≡ true)
-  pub between : (c d : Class A) → Among c cs → Among d cs → c.shows ≡ d.shows → c ≡ d
-  pub rise : LeastsRise cs
-
 -- the classes of those ranks of the range that show something: equal within, all such ranks together, two that show the same are one, in order
 pub record AreGroups {A : Type 0} (show : ℕ → A → Type 0) (first end : ℕ) (cs : List (Class A)) : Type 0 where
   pub each : (c : Class A) → Among c cs → IsClass show first end c
   pub together : (r : ℕ) (a : A) → first ≤ r → r < end → show r a → (c : Class A) × Among c cs × (in_runs c.runs r ≡ true)
   pub between : (c d : Class A) → Among c cs → Among d cs → (same : c.shows ≡ d.shows) → c ≡ d
   pub rise : LeastsRise cs
-
--- the numbers rise from the first on
-abbrev pub RiseFrom : ℕ → List ℕ → Type 0
-RiseFrom low [] = Unit {0}
-RiseFrom low (r ∷ rs) = (low ≤ r) × RiseFrom (suc r) rs
-
--- so many ranks pass the test
-pub record IsNumber (test : ℕ → Bool) (n : ℕ) : Type 0 where
-  pub ranks : List ℕ
-  pub rise : RiseFrom 0 ranks
-  pub has : (r : ℕ) → Among r ranks ↔ (test r ≡ true)
-  pub count : length ranks ≡ n
-
--- the counts of the classes that pass the test, added up
-abbrev pub total_in : {A : Type 0} → (A → Bool) → List (Class A) → ℕ
-total_in test [] = 0
-total_in test (c ∷ cs) = cond (test c.shows) c.count 0 + total_in test cs
