@@ -1,1 +1,5 @@
 pub mod Classes
+pub mod Showing
+pub mod Told
+pub mod Tallies
+pub mod Serial

@@ -1,17 +1,25 @@
 //! Orders in classes.
 
-ghost use Rattle.std.specs.Prelude.{◌≡◌, IfOk, IsErrOf};
-ghost use Rattle.machine_model.specs.Start.{start};
+ghost use Rattle.std.specs.Prelude.{◌≡◌, ◌≢◌, [], IfOk, IsErrOf};
+ghost use Rattle.machine_model.specs.World.{World};
+ghost use Rattle.machine_model.specs.Start.{Started, start};
 ghost use Rattle.session_steps.specs.Refused.{IsRefusedBy};
 ghost use Rattle.session_steps.specs.declared.error.StartError.{StartError};
 ghost use Rattle.schedule_counts.specs.declared.counting.StatesError.TheVariants.{Start};
+ghost use Rattle.schedule_counts.specs.Classes.{AreClasses};
 ghost use Rattle.spec_classes.specs.Classes.{AreClassesOf};
+ghost use Rattle.spec_classes.specs.Showing.{IsAtStart};
 
+use crate::lines::line_states;
+use crate::start::started;
+use crate::telling::told_classes;
 use binding_model::Table;
 use bound_specs::{Line, Spec};
+use marked_worlds::MarkedWorld;
 use order_classes::Shows;
-use schedule_counts::StatesError;
-use spec_schedules::Kind;
+use schedule_counts::{FinalStates, StatesError, Watch, final_states};
+use session_steps::SendError;
+use spec_schedules::{Kind, each_order_has_a_rank, ranks_are_unique};
 use std::alloc::Global;
 
 /// A class of orders: all those that show the same.
@@ -39,15 +47,65 @@ impl Drop for OrderClass {
 
 /// The orders of this kind of a spec with these tables, in classes in the order of their first ranks. Of a spec with permutation lines these are the orders.
 /// At most `room` bytes of different states are noted.
-pub fn classes_of(
+pub fn classes_of<W: Watch>(
     alloc: Global,
     spec: &Spec,
     tables: &[Table],
     kind: Kind,
     room: usize,
+    watch: &W,
 ) -> Result<Vec<OrderClass>, StatesError>
     ensures classes { IfOk result (λ classes. AreClassesOf kind tables.now spec.now.run classes.items) }
     ensures refused { (error : StartError) → IsErrOf result (StatesError.Start error) → IsRefusedBy error (start spec.now.run) }
 {
-    Err(StatesError::Memory)
+    let mut world = started(alloc, spec)?;
+    if spec.has_lines() {
+        return match line_classes(alloc, &mut world, spec, tables, kind) {
+            Ok(classes) => Ok(classes),
+            Err(_) => Err(StatesError::Memory),
+        };
+    }
+    let found = final_states(alloc, spec, tables, kind, room, watch)?;
+    match word_classes(alloc, &mut world, spec, tables, kind, &found) {
+        Ok(classes) => Ok(classes),
+        Err(_) => Err(StatesError::Memory),
+    }
+}
+
+/// The classes of the lines of a spec.
+fn line_classes(
+    alloc: Global,
+    world: &mut MarkedWorld<'_>,
+    spec: &Spec,
+    tables: &[Table],
+    kind: Kind,
+) -> Result<Vec<OrderClass>, SendError>
+    requires at { IsAtStart spec.now world.old }
+    requires lines { spec.now.run.lines ≢ [] }
+    ensures { IfOk result (λ classes. AreClassesOf kind tables.now spec.now.run classes.items) }
+{
+    let found = line_states(alloc, world, spec, tables)?;
+    found.shows.known();
+    ranks_are_unique();
+    told_classes(alloc, world, spec, kind, &found.shows, &found.states)
+}
+
+/// The classes of orders by the states in which they end.
+fn word_classes(
+    alloc: Global,
+    world: &mut MarkedWorld<'_>,
+    spec: &Spec,
+    tables: &[Table],
+    kind: Kind,
+    found: &FinalStates,
+) -> Result<Vec<OrderClass>, SendError>
+    requires at { IsAtStart spec.now world.old }
+    requires words { spec.now.run.lines ≡ [] }
+    requires counted { (w : World) × (start spec.now.run ≡ Started w) × AreClasses kind tables.now spec.now.run w found.now.shows found.now.states.items }
+    ensures { IfOk result (λ classes. AreClassesOf kind tables.now spec.now.run classes.items) }
+{
+    found.shows.known();
+    each_order_has_a_rank();
+    ranks_are_unique();
+    told_classes(alloc, world, spec, kind, &found.shows, &found.states)
 }

@@ -3,7 +3,14 @@
 
 mod classes;
 mod laws;
+mod leading;
+mod lines;
 mod serial;
+mod showing;
+mod start;
+mod tallies;
+mod telling;
+mod whole_lines;
 
 pub use classes::{OrderClass, classes_of};
 pub use laws::counts_add_up;

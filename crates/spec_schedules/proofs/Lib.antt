@@ -4,3 +4,4 @@ pub mod Words
 pub mod Few
 pub mod Finals
 pub mod Worked
+pub mod Unique

@@ -10,6 +10,7 @@ ghost use Rattle.spec_schedules.specs.declared.kind.Kind.{Kind};
 ghost use Rattle.spec_schedules.specs.Schedules.{IsSchedule, IsPermutation, NoneIsDropped, HasAllSteps, IsOrder, IsRank, permutations};
 ghost use Rattle.spec_schedules.specs.Points.{Point, point_rules, start_point};
 ghost use Rattle.spec_schedules.specs.Counted.{AreAllCounted};
+ghost use Rattle.spec_schedules.specs.Laws.{OneRankEach, OrdersAreAlone, PermutationsAreRanked, RanksAreUnique};
 
 /// A permutation in which no step is dropped is a schedule, and a schedule that has all steps is one.
 pub fn schedules_and_permutations()
@@ -27,6 +28,18 @@ pub fn orders_are_words()
 pub fn each_order_has_a_rank()
     ensures { (kind : Kind) (run : Spec) (start : World) (ks : List ℕ) → run.sessions ≤ 8 → IsOrder kind run.steps (queues_of run) start ks
         → (first : ℕ) × IsRank (queues_of run) ks first }
+{}
+
+/// Orders of one kind that have one rank are one, and each has one rank.
+pub fn ranks_are_unique()
+    ensures orders { RanksAreUnique }
+    ensures alone { OrdersAreAlone }
+    ensures ranks { OneRankEach }
+{}
+
+/// Each rank has its permutation, the one that `line` tells of it.
+pub fn permutations_are_ranked()
+    ensures { PermutationsAreRanked }
 {}
 
 /// No step leads back to a world that was, since fewer are left.

@@ -8,5 +8,5 @@ mod laws;
 pub use kind::Kind;
 pub use laws::{
     each_order_has_a_rank, no_order_leads_back, orders_are_few, orders_are_words,
-    schedules_and_permutations,
+    permutations_are_ranked, ranks_are_unique, schedules_and_permutations,
 };

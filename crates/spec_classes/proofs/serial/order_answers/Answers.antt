@@ -1,0 +1,18 @@
+use Rattle.std.proofs.Common.{◌≡◌, ap, ◌∙◌, arith, length}
+use Rattle.perm_ranks.specs.Words.{all_words}
+use Rattle.order_classes.specs.Letters.{session_orders}
+use Rattle.spec_classes.proofs.Answering.{answers-next, all-answered}
+use Rattle.spec_classes.proofs.serial.order_answers.Goals as goal
+
+pub loop-number-preserved : goal.loop-number-preserved
+loop-number-preserved c = record {
+  at = c.in_ok-add_answer.ensures.back;
+  answers = answers-next c.args.tables.now c.args.spec.now.run c.loop-number.number c.loop-number.answers c.add_answer.new.answers c.as_slice.result.now
+      (c.as_slice.ensures.value ∙ c.serial_line-line.ensures.line) c.loop-number.invariant.answers c.in_ok-add_answer.ensures.with;
+}
+
+pub returns : goal.returns
+returns c =
+    let all : c.count-number-end.result ≡ length (session_orders c.args.spec.now.run.sessions) = c.count-number-end.ensures.all ∙ ap (λ l. length (all_words l)) c.requires.orders in
+    all-answered c.args.tables.now c.args.spec.now.run c.loop-number.number c.loop-number.answers (omega (arith, all, c.loop-number-test.false, c.loop-number.auto.number-end))
+    c.loop-number.invariant.answers
