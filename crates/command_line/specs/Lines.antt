@@ -149,7 +149,6 @@ pub record AsksForNoMore (wanted : WantedClasses) : Type 0 where
   pub no_looks : wanted.looks.items ≡ []
   pub no_expectations : wanted.expectations.items ≡ []
   pub classes : wanted.brief ≡ false
-  pub no_ranks : wanted.ranks ≡ false
   pub no_outcomes : wanted.outcomes ≡ false
   pub no_left : wanted.left ≡ false
   pub as_text : wanted.form ≡ wanted_form.Text
@@ -172,7 +171,7 @@ AsksFor (Count path) (asked.Count p) = p.now ≡ path
 AsksFor (Rank path names) (asked.Rank p ns) = (p.now ≡ path) × (map (λ n. n.now) ns.items ≡ names)
 AsksFor (Order path rank) (asked.Order p r) = (p.now ≡ path) × (r ≡ rank)
 AsksFor (Show path order) (asked.Show p wanted json) = (p.now ≡ path) × IsWanted order wanted × (json ≡ false)
-AsksFor (Classes path) (asked.Classes p wanted workers progress) = (p.now ≡ path) × AsksForNoMore wanted × (workers ≡ DEFAULT_WORKERS) × (progress ≡ false)
+AsksFor (Classes path) (asked.Classes p wanted progress) = (p.now ≡ path) × AsksForNoMore wanted × (progress ≡ false)
 AsksFor (Run path first end) asked = RunsRanks path (range first end) asked
 AsksFor (RunAll path) asked = RunsRanks path wanted_ranks.All asked
 AsksFor (Join paths) (asked.Join ps) = map (λ p. p.now) ps ≡ paths

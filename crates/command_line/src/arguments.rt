@@ -35,6 +35,8 @@ enum Form {
     Books,
     /// `--name`
     Flag,
+    /// `--name`, where books are named.
+    FlagOfBooks,
     /// `--name`, of which some flags are refused.
     Page,
     /// `--name` or `--name=SESSION`, as often as wanted.
@@ -192,7 +194,7 @@ pub const EXPECT: Word = Word {
 pub const RANKS: Word = Word {
     name: "ranks",
     help: "Prints the numbers of each class too",
-    form: Form::Flag,
+    form: Form::FlagOfBooks,
 };
 
 pub const OUTCOMES: Word = Word {
@@ -323,7 +325,6 @@ static NOT_OF_BOOKS: &[&str] = &[
     "expect",
     "left",
     "html",
-    "workers",
     "progress",
 ];
 
@@ -341,7 +342,7 @@ fn formed<'a>(alloc: Global, word: &Word) -> Arg<'a> {
         Form::Number | Form::FirstOfAll | Form::EndOfAll => number(alloc, word),
         Form::Names => some(alloc, word, MAX_NAMES),
         Form::Books => some(alloc, word, MAX_BOOKS),
-        Form::Flag | Form::Page => flag(alloc, word),
+        Form::Flag | Form::FlagOfBooks | Form::Page => flag(alloc, word),
         Form::Session => session(alloc, word),
         Form::Select => select(alloc, word),
         Form::Expectation => expectation(alloc, word),
@@ -357,6 +358,7 @@ fn ruled<'a>(form: Form, arg: Arg<'a>) -> Result<Arg<'a>, AllocError> {
         Form::OneOrBooks => arg.required(false).required_unless_present("book"),
         Form::FirstOfAll => arg.required(false).requires_arg("END"),
         Form::EndOfAll => Ok(arg.required(false)),
+        Form::FlagOfBooks => arg.requires_arg("book"),
         Form::Page => arg.conflicts_with_all(NOT_OF_PAGES),
         Form::InPlaceOfSpec => arg.conflicts_with_all(NOT_OF_BOOKS),
         _ => Ok(arg),

@@ -130,7 +130,6 @@ fn classes_with<'a>(
     expectations: Vec<WantedExpectation<'a>>,
 ) -> Option<Asked<'a>> {
     let path = words.get_str("SPEC")?;
-    let workers = Workers::of(words.get_one::<u8>("workers")?)?;
     Some(Asked::Classes {
         path,
         wanted: WantedClasses {
@@ -139,12 +138,10 @@ fn classes_with<'a>(
             looks,
             expectations,
             brief: words.get_flag("brief"),
-            ranks: words.get_flag("ranks"),
             outcomes: words.get_flag("outcomes"),
             left: words.get_flag("left"),
             form: form_of_words(words),
         },
-        workers,
         progress: words.get_flag("progress"),
     })
 }
@@ -355,12 +352,10 @@ fn test_of_words<'a>(
 
 fn test_with<'a>(words: &ArgMatches<'a>, paths: Vec<&'a str>) -> Option<Asked<'a>> {
     let paths = Paths::of(paths)?;
-    let workers = Workers::of(words.get_one::<u8>("workers")?)?;
     Some(Asked::Test {
         paths,
         updates: words.get_flag("update"),
         junit: words.get_str("junit"),
-        workers,
     })
 }
 

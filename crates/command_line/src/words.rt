@@ -67,7 +67,6 @@ pub enum Asked<'a> {
     Classes {
         path: &'a str,
         wanted: WantedClasses<'a>,
-        workers: Workers,
         progress: bool,
     },
     /// What the books at one path or more tell of the orders of their spec, in classes.
@@ -118,7 +117,6 @@ pub enum Asked<'a> {
         paths: Paths<'a>,
         updates: bool,
         junit: Option<&'a str>,
-        workers: Workers,
     },
 }
 

@@ -2,7 +2,7 @@
 use Rattle.std.specs.Prelude.{ℕ}
 use Rattle.fault_texts.specs.declared.fault.ProgramFault.{ProgramFault}
 use Rattle.fault_texts.specs.declared.fault.ProgramFault.TheVariants.{Spec, Sql, Bind, Start, RankOutOfRange, Shard, Book, BookTooLarge, OtherSpec}
-use Rattle.fault_texts.specs.declared.fault.ProgramFault.TheVariants.{NoStep, Twice, OutOfTurn, LeftOut, NoLine, NoSession, NoSerialOrders, LookSql, LookBind, NotOneSelect, NoValue}
+use Rattle.fault_texts.specs.declared.fault.ProgramFault.TheVariants.{NoStep, Twice, OutOfTurn, LeftOut, NoLine, NoSession, NoSerialOrders, TooManyStates, LookSql, LookBind, NotOneSelect, NoValue}
 use Rattle.fault_texts.specs.declared.fault.ProgramFault.TheVariants.{TooManyRanks, NoSpecs, TooManySpecs, Explained, Missing, Clash, NoMemory, Read, Write}
 
 -- a rank without exactly one value is told by 1, what is refused by 3, want of memory by 4, and a read or write fault by 5
@@ -19,6 +19,7 @@ status_of (LeftOut path due) = 3
 status_of (NoLine path) = 3
 status_of (NoSession path name) = 3
 status_of (NoSerialOrders path) = 3
+status_of (TooManyStates path noted) = 3
 status_of (LookSql text kind offset) = 3
 status_of (LookBind text kind offset) = 3
 status_of (NotOneSelect text) = 3

@@ -82,6 +82,12 @@ pub enum ProgramFault<'a> {
     NoSerialOrders {
         path: &'a str,
     },
+    /// The orders of the spec lead to more different states than there is room for: so many were noted.
+    #[error("isofarm: {path}: too many different states: more than {noted}")]
+    TooManyStates {
+        path: &'a str,
+        noted: u64,
+    },
     /// A look is no SQL that the program knows.
     #[error("isofarm: {text:?}: sql error {kind} at {offset}")]
     LookSql {
@@ -188,6 +194,7 @@ impl ProgramFault<'_> {
             | ProgramFault::NoLine { .. }
             | ProgramFault::NoSession { .. }
             | ProgramFault::NoSerialOrders { .. }
+            | ProgramFault::TooManyStates { .. }
             | ProgramFault::LookSql { .. }
             | ProgramFault::LookBind { .. }
             | ProgramFault::NotOneSelect { .. }
