@@ -28,10 +28,14 @@ use Rattle.book_commands.specs.declared.finding.Finding.{Finding}
 use Rattle.book_commands.specs.declared.finding.Finding.TheVariants.{Good, Bad}
 use Rattle.class_commands.specs.declared.asking.AskedSpec.{AskedSpec}
 use Rattle.class_commands.specs.declared.classing.ClassesFault.{ClassesFault}
-use Rattle.class_commands.specs.declared.classing.ClassesFault.TheVariants.{Spec, Asked, Run, NoMemory, Write}
+use Rattle.class_commands.specs.declared.classing.ClassesFault.TheVariants.{Spec, Asked, Run, TooMany, NoMemory, Write}
 use Rattle.class_commands.specs.Classing.{IsClassesRun, IsFinding, IsMet, IsNotTold, IsTellingOf, expectation_over, grouping, page_of, seen_of}
 use Rattle.class_commands.specs.Opened.{IsWrittenAs}
-use Rattle.class_commands.specs.Parts.{IsAskedSpec, IsNotAskedSpec, IsTextOf, Writes, finding_by}
+use Rattle.class_commands.specs.Parts.{IsAskedSpec, IsNotAskedSpec, IsNotCounted, IsNotFound, IsTextOf, Writes, finding_by}
+use Rattle.spec_schedules.specs.declared.kind.Kind.TheVariants.{Permutations}
+use Rattle.schedule_counts.specs.declared.counting.StatesError.{StatesError}
+use Rattle.schedule_counts.specs.declared.counting.StatesError.TheVariants as states
+use Rattle.session_steps.specs.declared.error.StartError.TheVariants as start_error
 
 -- a spec file has the text that it is of
 pub text-is : (text : List ℕ) (file : SpecFile) → IsFileOf text file → file.text ≡ text
@@ -43,7 +47,7 @@ text-is text file is =
     cc (c.1.1)
 
 module _ {W : Type 0} (contents : W → Option (List ℕ)) (old new : Counted W) (bytes path : List ℕ) (wanted : WantedClasses) (a : AskedSpec)
-    (is : IsAskedSpec bytes wanted a) (classed : Classed) (are : IsClassed a.tables.items a.spec.run a.asked.filters.items (grouping wanted.answers) classed) where
+    (is : IsAskedSpec bytes wanted a) (classed : Classed) (are : IsClassed Permutations a.tables.items a.spec.run a.asked.filters.items (grouping wanted.answers) classed) where
   abbrev telling : (text : List ℕ) → IsTextOf path a.spec a.tables.items wanted a.asked classed text → IsTellingOf bytes path wanted text
   telling text is-text =
       let same = text-is bytes a.spec is.is_file in record {
@@ -55,9 +59,7 @@ module _ {W : Type 0} (contents : W → Option (List ℕ)) (old new : Counted W)
         is_asked = is.is_asked;
         classed = classed;
         are = are;
-        runs = is-text.0;
-        are_ranks = is-text.1;
-        written = subst (λ t. IsWrittenAs wanted.form t a.spec (page_of path a.spec a.tables.items wanted a.asked classed is-text.0) text) same is-text.2;
+        written = subst (λ t. IsWrittenAs wanted.form t a.spec (page_of path a.spec a.tables.items wanted a.asked classed) text) same is-text;
       }
 
   -- what is written of them is the run's
@@ -68,6 +70,7 @@ module _ {W : Type 0} (contents : W → Option (List ℕ)) (old new : Counted W)
   classes-run (Err (Spec fault)) never = absurd never
   classes-run (Err (Asked fault)) never = absurd never
   classes-run (Err (Run error)) never = absurd never
+  classes-run (Err (TooMany noted)) never = absurd never
   classes-run (Err NoMemory) kept = kept
   classes-run (Err (Write fault)) stopped = (stopped.0, telling stopped.0 stopped.1, stopped.2)
 
@@ -77,6 +80,7 @@ module _ {W : Type 0} (contents : W → Option (List ℕ)) (old : Counted W) (by
   not-asked (Spec fault) is = (refl, is)
   not-asked (Asked fault) is = (refl, is)
   not-asked (Run error) never = absurd never
+  not-asked (TooMany noted) never = absurd never
   not-asked NoMemory any = refl
   not-asked (Write fault) never = absurd never
 
@@ -85,6 +89,15 @@ module _ {W : Type 0} (contents : W → Option (List ℕ)) (old : Counted W) (by
   not-run a is error is-not =
       let declares = subst (λ t. Declares t a.spec a.tables.items) (text-is bytes a.spec is.is_file) is.declares in
       (refl, (a.spec, is.is_file, (a.tables.items, declares, ((a.asked, is.is_asked), is-not))))
+
+  -- nor where nothing is found of them
+  pub not-found : (a : AskedSpec) → IsAskedSpec bytes wanted a → (fault : ClassesFault) → IsNotFound a.spec fault → IsNotTold contents old old bytes path wanted fault
+  not-found a is (Spec fault) never = absurd never
+  not-found a is (Asked fault) never = absurd never
+  not-found a is (Run error) is-not = not-run a is error is-not
+  not-found a is (TooMany noted) any = refl
+  not-found a is NoMemory any = refl
+  not-found a is (Write fault) never = absurd never
 
 -- ---- what is found
 

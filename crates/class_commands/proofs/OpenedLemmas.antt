@@ -2,18 +2,17 @@
 use Rattle.std.proofs.Common.{◌≡◌, refl, sym, ap, ◌∙◌, subst, ℕ, ◌+◌, ◌<◌, List, [], ◌∷◌, ◌++◌, All, length, take, get_or, codes, inl, inr, map}
 use Rattle.std.proofs.lemmas.List.{append_assoc, flat_map_more, take_more}
 use Rattle.std.proofs.lemmas.List.Elements.{All-cons, All-nil}
+use Rattle.std.proofs.lemmas.Option.{slice_get_within}
 use Rattle.std.specs.List.{AllZip}
 use Rattle.binding_model.specs.declared.tables.Table.{Table}
-use Rattle.bound_specs.specs.Spec.{Spec, Step, SpecFile, line_of, ranks}
+use Rattle.bound_specs.specs.Spec.{Spec, Step, SpecFile, line_of, queues_of, ranks, ranks_by}
 use Rattle.lock_queues.specs.Reasons.{Among}
 use Rattle.order_classes.specs.declared.letters.Filter.{Filter}
 use Rattle.order_classes.specs.declared.rows.ClassRow.{ClassRow}
 use Rattle.order_classes.specs.declared.rows.Grouping.{Grouping}
-use Rattle.order_classes.specs.declared.rows.Grouping.TheVariants as by
-use Rattle.order_classes.specs.declared.shows.Shows.{Shows}
-use Rattle.order_classes.specs.Asked.{ShowsPassing, AnswersPassing}
-use Rattle.class_stretches.specs.Classes.{Class, IsClass}
-use Rattle.class_rows.specs.Pages.{IsClassed, IsRow}
+use Rattle.spec_schedules.specs.declared.kind.Kind.{Kind}
+use Rattle.spec_schedules.specs.Ranked.{IsOrderBy}
+use Rattle.class_rows.specs.Pages.{IsClassed}
 use Rattle.class_rows.specs.declared.rows.Classed.{Classed}
 use Rattle.class_texts.specs.Pages.{Page}
 use Rattle.class_values.specs.Class.{classes_part}
@@ -81,26 +80,18 @@ orders-more bytes path file rows place row old new within here are pushed =
 
 -- ---- ranks
 
--- the least rank of a class of ranks below the end is below it
-within : {A : Type 0} (show : ℕ → A → Type 0) (end : ℕ) (c : Class A) → IsClass show 0 end c → c.least < end
-within show end c is = (is.within c.least is.has_least).1
+-- the rank of an order is one of the spec's
+order-inside : (kind : Kind) (run : Spec) (ls : List (List ℕ)) (rank : ℕ) (ks : List ℕ) → IsOrderBy kind run ls rank ks → rank < ranks_by ls (queues_of run)
+order-inside kind run [] rank ks is = is.3.inside
+order-inside kind run (l ∷ ls) rank ks is = slice_get_within (l ∷ ls) rank ks is
 
-module _ (tables : List Table) (spec : Spec) where
-  rows-inside : (groups : List (Class Shows)) (rows : List ClassRow) → AllZip (IsRow tables spec) groups rows
-      → ((c : Class Shows) → Among c groups → c.least < ranks spec) → All (λ (row : ClassRow). row.least < ranks spec) rows
-  rows-inside [] [] zip each = All-nil (λ (row : ClassRow). row.least < ranks spec)
-  rows-inside [] (row ∷ rows) zip each = absurd zip
-  rows-inside (c ∷ cs) [] zip each = absurd zip
-  rows-inside (c ∷ cs) (row ∷ rows) zip each =
-      All-cons (λ (row : ClassRow). row.least < ranks spec) row rows (subst (λ least. least < ranks spec) (sym zip.0.least) (each c (inl refl)))
-      (rows-inside cs rows zip.1 (λ d among. each d (inr among)))
+all-of : (P : ClassRow → Type 0) (rows : List ClassRow) → ((row : ClassRow) → Among row rows → P row) → All P rows
+all-of P [] f = All-nil P
+all-of P (row ∷ rows) f = All-cons P row rows (f row (inl refl)) (all-of P rows (λ r m. f r (inr m)))
 
-  -- the least rank of each class is one of the spec's
-  pub leasts-inside : (filters : List Filter) (grouping : Grouping) (x : Classed) → IsClassed tables spec filters grouping x
-      → All (λ (row : ClassRow). row.least < ranks spec) x.rows.items
-  leasts-inside filters by.Shows x is =
-      rows-inside is.groups x.rows.items is.rows
-      (λ c among. within (ShowsPassing tables spec filters) (ranks spec) c (is.passing.each c (subst (Among c) is.grouped among)))
-  leasts-inside filters by.Answers x is =
-      rows-inside is.groups x.rows.items is.rows
-      (λ c among. within (AnswersPassing tables spec filters) (ranks spec) c (is.grouped.each c among))
+-- the least rank of each class is one of the spec's
+pub leasts-inside : (kind : Kind) (tables : List Table) (run : Spec) (filters : List Filter) (by : Grouping) (x : Classed)
+    → IsClassed kind tables run filters by x → All (λ (row : ClassRow). row.least < ranks run) x.rows.items
+leasts-inside kind tables run filters by x is =
+    all-of (λ (row : ClassRow). row.least < ranks run) x.rows.items
+    (λ row m. order-inside kind run run.lines row.least row.line.items (is.each row m).line)

@@ -6,6 +6,9 @@ use Rattle.bound_specs.specs.Binding.{IsFileOf}
 use Rattle.bound_specs.specs.Spec.{SpecFile}
 use Rattle.machine_model.specs.Start.{start}
 use Rattle.session_machine.specs.Running.{IsNotRunBy}
+use Rattle.session_steps.specs.Refused.{IsRefusedBy}
+use Rattle.schedule_counts.specs.declared.counting.StatesError.{StatesError}
+use Rattle.schedule_counts.specs.declared.counting.StatesError.TheVariants as states
 use Rattle.spec_binding.specs.SpecFiles.{IsNoSpec}
 use Rattle.spec_texts.specs.Texts.{Declares}
 use Rattle.transcripts.specs.Counted.{Wrote, Stopped}
@@ -35,6 +38,12 @@ IsNotAskedSpec bytes wanted (Spec fault) = IsNoSpec bytes fault
 IsNotAskedSpec bytes wanted (Asked fault) = IsNotAsked bytes wanted (λ file tables. IsRefused file tables wanted fault)
 IsNotAskedSpec bytes wanted NoMemory = Unit {0}
 IsNotAskedSpec bytes wanted fault = ⊥
+
+-- why the orders of a spec are not counted: it does not start, or there is no room or memory
+abbrev pub IsNotCounted : SpecFile → StatesError → Type 0
+IsNotCounted file (states.Start error) = IsRefusedBy error (start file.run)
+IsNotCounted file (states.TooMany noted) = Unit {0}
+IsNotCounted file states.Memory = Unit {0}
 
 -- why nothing is found of the orders of a spec: it does not start, there is no room for all states, or memory ran out
 abbrev pub IsNotFound : SpecFile → ClassesFault → Type 0

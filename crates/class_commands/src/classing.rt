@@ -1,9 +1,6 @@
 //! Orders of a spec in classes, from the bytes of the spec to the text that is written.
 
-ghost use Rattle.std.specs.Prelude.{◌≡◌, ◌<◌, ℕ, IfErr, IfOk, IsErrOf, List, false};
-ghost use Rattle.machine_model.specs.Start.{start};
-ghost use Rattle.session_steps.specs.Refused.{IsRefusedBy};
-ghost use Rattle.session_steps.specs.declared.error.StartError.{StartError};
+ghost use Rattle.std.specs.Prelude.{◌≡◌, ◌<◌, ℕ, IfErr, IfOk, List, false};
 ghost use Rattle.spec_schedules.specs.declared.kind.Kind.TheVariants.{Permutations};
 ghost use Rattle.spec_texts.specs.Texts.{Declares};
 ghost use Rattle.transcripts.specs.Counted.{failures_of};
@@ -11,7 +8,8 @@ ghost use Rattle.class_rows.specs.Pages.{IsClassed};
 ghost use Rattle.class_rows.specs.Telling.{AreSerialOf};
 ghost use Rattle.class_commands.specs.Classing.{IsClassesRun, IsFinding, grouping};
 ghost use Rattle.class_commands.specs.Opened.{HasOrders};
-ghost use Rattle.class_commands.specs.Parts.{IsAskedSpec, IsNotFound, IsTextOf, Writes};
+ghost use Rattle.bound_specs.specs.Spec.{SpecFile};
+ghost use Rattle.class_commands.specs.Parts.{IsAskedSpec, IsNotCounted, IsNotFound, IsTextOf, Writes};
 
 use crate::asking::{AskedSpec, asked_spec};
 use crate::opened::orders_for;
@@ -26,6 +24,7 @@ use different_shows::Different;
 use order_classes::{Filter, Grouping};
 use schedule_counts::{StatesError, Unwatched, Watch};
 use session_machine::RunError;
+use session_steps::StartError;
 use spec_binding::SpecFault;
 use spec_classes::{classes_of, serial_answers};
 use spec_schedules::Kind;
@@ -128,9 +127,19 @@ fn found_of<'a, V: Watch>(
     let filters = asked.asked.filters.as_slice();
     match found_in(alloc, spec, tables, by, filters, watch) {
         Ok(found) => Ok(found),
-        Err(StatesError::Start(error)) => Err(ClassesFault::Run(RunError::Start(error))),
-        Err(StatesError::TooMany(noted)) => Err(ClassesFault::TooMany(noted)),
-        Err(StatesError::Memory) => Err(ClassesFault::NoMemory),
+        Err(error) => Err(fault_of(error)),
+    }
+}
+
+/// Why classes are not written whose orders were not counted.
+fn fault_of<'a>(error: StatesError) -> ClassesFault<'a>
+    ensures { (file : SpecFile) → IsNotCounted file error → IsNotFound file result }
+{
+    match error {
+        StatesError::Start(StartError::NoMemory) => ClassesFault::NoMemory,
+        StatesError::Start(error) => ClassesFault::Run(RunError::Start(error)),
+        StatesError::TooMany(noted) => ClassesFault::TooMany(noted),
+        StatesError::Memory => ClassesFault::NoMemory,
     }
 }
 
@@ -144,10 +153,16 @@ fn found_in<V: Watch>(
     watch: &V,
 ) -> Result<Classed, StatesError>
     ensures found { IfOk result (IsClassed Permutations tables.now spec.now.run filters.now by) }
-    ensures refused { (error : StartError) → IsErrOf result (StatesError.Start error) → IsRefusedBy error (start spec.now.run) }
+    ensures refused { IfErr result (IsNotCounted spec.now) }
 {
-    let classes = classes_of(alloc, spec, tables, Kind::Permutations, ROOM, watch)?;
-    let serial = serial_of(alloc, spec, tables)?;
+    let classes = match classes_of(alloc, spec, tables, Kind::Permutations, ROOM, watch) {
+        Ok(classes) => classes,
+        Err(error) => return Err(error),
+    };
+    let serial = match serial_of(alloc, spec, tables) {
+        Ok(serial) => serial,
+        Err(error) => return Err(error),
+    };
     let found = FoundOrders {
         spec,
         tables,
@@ -155,14 +170,16 @@ fn found_in<V: Watch>(
         classes: classes.as_slice(),
         serial: &serial,
     };
-    let classed = classed(alloc, &found, Asked { by, filters })?;
-    Ok(classed)
+    match classed(alloc, &found, Asked { by, filters }) {
+        Ok(classed) => Ok(classed),
+        Err(_) => Err(StatesError::Memory),
+    }
 }
 
 /// What the serial orders of a spec answer: nothing of one with permutation lines.
 fn serial_of(alloc: Global, spec: &Spec, tables: &[Table]) -> Result<Different, StatesError>
     ensures answers { IfOk result (AreSerialOf tables.now spec.now.run) }
-    ensures refused { (error : StartError) → IsErrOf result (StatesError.Start error) → IsRefusedBy error (start spec.now.run) }
+    ensures refused { IfErr result (IsNotCounted spec.now) }
 {
     if spec.has_lines() {
         return Ok(Different::new(alloc));

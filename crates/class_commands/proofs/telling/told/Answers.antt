@@ -1,4 +1,4 @@
-use Rattle.std.proofs.Common.{◌∙◌, None, ap, map, subst, sym}
+use Rattle.std.proofs.Common.{◌∙◌, [], None, ap, false, map, subst, sym}
 use Rattle.class_texts.specs.Letters.{kind_of}
 use Rattle.class_texts.specs.Pages.{Page}
 use Rattle.class_commands.specs.Opened.{IsWrittenAs}
@@ -15,9 +15,7 @@ returns-clause-text c =
     ∙ (λ k. map (expectation_over (c.as_slice-rows.ensures.value k)) (c.as_slice-2.ensures.value k)) in
     let filtered = c.has_some.ensures ∙ ap has_some c.as_slice-3.ensures.value in
     let looks =
-    c.as_slice-6.ensures.value ∙ c.in_ok-looks.ensures ∙ (λ k. map (look_over (c.as_slice-rows.ensures.value k)) (c.as_slice.ensures.value k)) in (
-      c.in_ok-ranks.ranks.items,
-      c.in_ok-ranks.ensures,
+    c.as_slice-5.ensures.value ∙ c.in_ok-looks.ensures ∙ (λ k. map (look_over (c.as_slice-rows.ensures.value k)) (c.as_slice.ensures.value k)) in
       subst (λ (p : Page). IsWrittenAs c.args.wanted.now.form c.args.spec.now.text c.args.spec.now p (written_bytes c.in_ok-written.written))
           (λ k. let p : Page = record {
             path = c.args.path.now;
@@ -32,19 +30,18 @@ returns-clause-text c =
             totals = c.args.found.now.totals;
             rows = c.as_slice-rows.ensures.value k;
             is_brief = c.args.wanted.now.brief;
-            with_ranks = c.args.wanted.now.ranks;
-            ranks = c.as_slice-5.ensures.value k;
+            with_ranks = false;
+            ranks = [];
             with_outcomes = c.args.wanted.now.outcomes;
             with_left = c.args.wanted.now.left;
             looks = looks k;
-          } in p) c.in_ok-written.ensures,
-    )
+          } in p) c.in_ok-written.ensures
 
 pub returns-clause-finding : goal.returns-clause-finding
 returns-clause-finding c =
     let rows = c.args.found.now.rows.items in
     let es = c.args.asked.now.expectations.items in
     let expectations =
-    c.as_slice-7.ensures.value ∙ c.in_ok-expectations.ensures
+    c.as_slice-6.ensures.value ∙ c.in_ok-expectations.ensures
     ∙ (λ k. map (expectation_over (c.as_slice-rows.ensures.value k)) (c.as_slice-2.ensures.value k)) in
     subst (IsFinding rows es) (sym (c.finding_of.ensures ∙ ap finding_by expectations)) (finding-is c.one_row_is_met.ensures rows es)
