@@ -99,14 +99,14 @@ fn by_shown<'t>(
     for class in &classes.classes {
         sorted.push(*class)?;
     }
-    sorted.sort_unstable_by_key(|class: &ReadClass<'t>| class.shown);
+    sorted.sort_unstable_by_key(|class: &ReadClass<'_>| class.shown);
     Ok(sorted)
 }
 
 /// The class that shows this, if one does.
 fn class_showing<'t>(sorted: &[ReadClass<'t>], shown: &str) -> Option<ReadClass<'t>> {
     let place = sorted
-        .binary_search_by(|class: &ReadClass<'t>| class.shown.cmp(shown))
+        .binary_search_by(|class: &ReadClass<'_>| class.shown.cmp(shown))
         .ok()?;
     sorted.get(place).copied()
 }

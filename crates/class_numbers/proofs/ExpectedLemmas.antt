@@ -2,35 +2,36 @@
 use Rattle.std.proofs.Common.{◌≡◌, ◌↔◌, refl, sym, ap, ◌∙◌, subst, ℕ, suc, ◌+◌, ◌<◌, ◌≤◌, Bool, true, false, cond, ◌⊎◌, inl, inr, ⊎_elim, arith}
 use Rattle.std.proofs.Common.{List, [], ◌∷◌, get_or, map, All, Option, Some, None, option_map}
 use Rattle.std.proofs.lemmas.List.Elements.{All-cons, All-head, All-nil, All-tail}
-use Rattle.std.specs.List.{AllZip}
 use Rattle.lock_modes.specs.declared.value.Value.{Value}
 use Rattle.lock_queues.specs.Reasons.{Among}
 use Rattle.binding_model.specs.declared.tables.Table.{Table}
-use Rattle.bound_specs.specs.Spec.{Spec, line_of, ranks}
+use Rattle.bound_specs.specs.Spec.{Spec}
 use Rattle.bound_statements.specs.declared.statement.Bound.{Bound}
 use Rattle.events.specs.declared.event.Event.{Event}
+use Rattle.spec_schedules.specs.declared.kind.Kind.{Kind}
+use Rattle.spec_classes.specs.Classes.{ShowsAt}
+use Rattle.spec_classes.proofs.Counts.{number-none, number-same, number-sum}
 use Rattle.order_classes.specs.declared.letters.Filter.{Filter}
 use Rattle.order_classes.specs.declared.rows.ClassRow.{ClassRow}
 use Rattle.order_classes.specs.declared.rows.Grouping.{Grouping}
+use Rattle.order_classes.specs.declared.rows.Grouping.TheVariants as the
 use Rattle.order_classes.specs.declared.shows.Shows.{Shows}
-use Rattle.class_stretches.specs.Classes.{AreGroups, Class, LeastsRise, in_runs}
-use Rattle.order_classes.specs.Looks.{IsLook, Meets, look_at, one_row}
-use Rattle.order_classes.proofs.Unique.{later}
-use Rattle.class_rows.specs.Pages.{IsClassed, IsRow}
+use Rattle.order_classes.specs.Asked.{Passes}
+use Rattle.order_classes.specs.Looks.{IsLook, Meets, one_row}
+use Rattle.order_classes.specs.Numbers.{IsNumberOf, IsLeastOf}
+use Rattle.order_classes.specs.Shows.{shows_of_line}
+use Rattle.class_rows.specs.Pages.{IsAskedWith, IsClassed, IsRow, AllLater, RowsRise, told_by as grouped_by}
 use Rattle.class_rows.specs.declared.rows.Classed.{Classed}
-use Rattle.class_looks.specs.Laws.{AskedAreDecided, ExpectationsAreSeen, LooksSeeRanks}
-use Rattle.class_looks.specs.Seeing.{told_by}
+use Rattle.class_looks.specs.Laws.{ExpectationsAreSeen, LooksSeeLines}
+use Rattle.class_looks.specs.Seeing.{told_by, sees}
 use Rattle.class_texts.specs.Expected.{Expectation, first_miss, is_met_at, meets, met_from}
 use Rattle.class_texts.specs.Laws.{OneRowIsMet}
 use Rattle.asked_classes.specs.declared.expectations.AskedExpectation.{AskedExpectation}
 use Rattle.asked_classes.specs.Looks.{AreExpectations}
 use Rattle.wanted_classes.specs.declared.wanted.WantedExpectation.{WantedExpectation}
 use Rattle.class_commands.specs.Classing.{IsMet, expectation_over, seen_of}
-use Rattle.class_numbers.specs.Numbers.{AreAsExpected, IsAsExpected, IsLeastOf, IsNotAsExpected, IsNumberOf}
+use Rattle.class_numbers.specs.Numbers.{AreAsExpected, IsAskedFor, IsAsExpected, IsNotAsExpected}
 use Rattle.class_numbers.specs.Told.{IsExpectationTold, IsMissTold}
-use Rattle.class_numbers.proofs.Counts.{number-same}
-use Rattle.class_numbers.proofs.Picked.{InPicked, Tells, groups-number, total, zip-map}
-use Rattle.class_numbers.proofs.Asked.{GroupsBy, asked-in, group-meets, groups-are, least-asked, one-group, rank-asked}
 
 -- ---- along the rows
 
@@ -46,181 +47,234 @@ seen-here : (seen : List (List Event)) (k : ℕ) (f : ClassRow → List Event) (
     → get_or seen k [] ≡ f row
 seen-here seen k f row rows is = ap (λ n. get_or seen n []) (let e : k ≡ k + 0 = omega arith in e) ∙ is 0
 
-module _ (tables : List Table) (spec : Spec) (e : Expectation) (f : ClassRow → List Event) where
-  met-here : (k : ℕ) (row : ClassRow) (rows : List ClassRow) → IsSeen e.seen k f (row ∷ rows) → is_met_at e k ≡ meets e.values (f row)
-  met-here k row rows seen = ap (meets e.values) (seen-here e.seen k f row rows seen)
+later : (n : ℕ) (rows : List ClassRow) (row : ClassRow) → AllLater n rows → Among row rows → n < row.least
+later n [] row a m = absurd m
+later n (r ∷ rows) row a (inl e) = subst (λ (x : ClassRow). n < x.least) (sym e) a.0
+later n (r ∷ rows) row a (inr m) = later n rows row a.1 m
 
-  met-total : (k : ℕ) (cs : List (Class Shows)) (rows : List ClassRow) → AllZip (IsRow tables spec) cs rows → IsSeen e.seen k f rows
-      → met_from e k rows ≡ total cs (map (λ row. meets e.values (f row)) rows)
-  met-total k [] [] z seen = refl
-  met-total k [] (row ∷ rows) z seen = absurd z
-  met-total k (c ∷ cs) [] z seen = absurd z
-  met-total k (c ∷ cs) (row ∷ rows) z seen =
-      let rec = met-total (k + 1) cs rows z.1 (seen-next e.seen k f row rows seen) in
-      let here = met-here k row rows seen in
-      let count = z.0.count in
-      λ i. cond (here i) (count i) 0 + rec i
+module _ (kind : Kind) (tables : List Table) (run : Spec) (filters : List Filter) (by : Grouping) (seen : ExpectationsAreSeen)
+    (alone : (rank : ℕ) (s t : Shows) → ShowsAt kind tables run rank s → ShowsAt kind tables run rank t → s ≡ t) (e : AskedExpectation)
+    (look : IsLook tables e.look) where
+  -- the rank's order is asked for, and is told by the row
+  abbrev InRow : ClassRow → ℕ → Type 0
+  InRow row = IsAskedWith kind tables run filters (λ s. grouped_by by s ≡ grouped_by by row.shows)
 
-  -- no class misses; or the first that does, in the order of least ranks
-  abbrev IsFirstOf : (Class Shows → Type 0) → List (Class Shows) → Option (ClassRow × List Event) → Type 0
-  IsFirstOf Picks cs None = (c : Class Shows) → Among c cs → Picks c
-  IsFirstOf Picks cs (Some miss) =
-      (c : Class Shows) × Among c cs × IsRow tables spec c miss.0 × (miss.1 ≡ f miss.0) × (Picks c → ⊥)
-      × ((d : Class Shows) → Among d cs → d.least < c.least → Picks d)
+  -- orders that are told alike leave the same
+  same-left : (g : Grouping) (s t : Shows) → grouped_by g s ≡ grouped_by g t → s.left ≡ t.left
+  same-left the.Shows s t h = ap (λ (x : Shows). x.left) h
+  same-left the.Answers s t h = ap (λ (x : Shows). x.left) h
 
-  first-of : (Picks : Class Shows → Type 0) (k : ℕ) (cs : List (Class Shows)) (rows : List ClassRow) → AllZip (IsRow tables spec) cs rows → LeastsRise cs
-      → IsSeen e.seen k f rows → AllZip (Tells Picks) cs (map (λ row. meets e.values (f row)) rows) → IsFirstOf Picks cs (first_miss e k rows)
-  first-of Picks k [] [] z rise seen tells = λ c m. absurd m
-  first-of Picks k [] (row ∷ rows) z rise seen tells = absurd z
-  first-of Picks k (c ∷ cs) [] z rise seen tells = absurd z
-  first-of Picks k (c ∷ cs) (row ∷ rows) z rise seen tells =
-      at (is_met_at e k) (get_or e.seen k []) (first_miss e (k + 1) rows) (subst (Tells Picks c) (sym (met-here k row rows seen)) tells.0) (seen-here e.seen k f row rows seen)
-      (first-of Picks (k + 1) cs rows z.1 rise.1 (seen-next e.seen k f row rows seen) tells.1)
-    where
-      at : (b : Bool) (events : List Event) (rest : Option (ClassRow × List Event)) → Tells Picks c b → events ≡ f row → IsFirstOf Picks cs rest
-          → IsFirstOf Picks (c ∷ cs) (cond b rest (Some (row, events)))
-      at true events None is told rec = each
-        where
-          each : (d : Class Shows) → Among d (c ∷ cs) → Picks d
-          each d (inl same) = subst Picks (sym same) (is.0 refl)
-          each d (inr m) = rec d m
-      at true events (Some miss) is told rec = (rec.0, inr rec.1, rec.2, rec.3, rec.4, each)
-        where
-          each : (d : Class Shows) → Among d (c ∷ cs) → d.least < rec.0.least → Picks d
-          each d (inl same) lt = subst Picks (sym same) (is.0 refl)
-          each d (inr m) lt = rec.5 d m lt
-      at false events rest is told rec = (c, inl refl, z.0, told, (λ p. (let bad : false ≡ true = is.1 p in cc)), each)
-        where
-          each : (d : Class Shows) → Among d (c ∷ cs) → d.least < c.least → Picks d
-          each d (inl same) lt = absurd (let least : d.least ≡ c.least = ap (λ (x : Class Shows). x.least) same in omega (arith, lt, least))
-          each d (inr m) lt = absurd (let after : c.least < d.least = later c.least cs d rise.0 m in omega (arith, lt, after))
+  -- the row is as expected: the SELECT sees that one row of what its first order leaves
+  abbrev Is : ClassRow → Type 0
+  Is row = seen_of e.look row ≡ told_by (one_row e.values.items)
+
+  -- which each of its orders meets, or none
+  order-meets : (row : ClassRow) (rank : ℕ) (ks : List ℕ) (s : Shows) → shows_of_line tables run ks ≡ Some s
+      → grouped_by by s ≡ grouped_by by row.shows → Is row ↔ Meets run e.look e.values.items ks
+  order-meets row rank ks s shows like =
+      let own = seen tables run e.look e.values.items ks s look shows in
+      let same : told_by (sees e.look s.left) ≡ seen_of e.look row = ap (λ rows. told_by (sees e.look rows)) (same-left by s row.shows like) in (
+        λ h. own.1 (same ∙ h),
+        λ m. sym same ∙ own.0 m,
+      )
+
+  expected-in : (row : ClassRow) → Is row → (rank : ℕ) → InRow row rank → IsAsExpected kind tables run filters e rank
+  expected-in row is rank x =
+      let y = x.1 in (
+        y.0,
+        record { order = y.1; shown = x.0; shows = y.2; passes = x.2 },
+        (order-meets row rank y.0 x.0 y.2 x.3).0 is,
+      )
+
+  not-expected-in : (row : ClassRow) → (Is row → ⊥) → (rank : ℕ) → InRow row rank → IsNotAsExpected kind tables run filters e rank
+  not-expected-in row not rank x =
+      let y = x.1 in (
+        y.0,
+        record { order = y.1; shown = x.0; shows = y.2; passes = x.2 },
+        λ m. not ((order-meets row rank y.0 x.0 y.2 x.3).1 m),
+      )
+
+  -- a rank's order is in one of the rows, and as expected
+  abbrev InSome : List ClassRow → ℕ → Type 0
+  InSome rows rank = (row : ClassRow) × Among row rows × Is row × InRow row rank
+
+  apart : (row : ClassRow) (rows : List ClassRow) → IsRow kind tables run filters by row
+      → ((r : ClassRow) → Among r rows → IsRow kind tables run filters by r) → AllLater row.least rows → (rank : ℕ) → InRow row rank → (r : ClassRow) → Among r rows
+      → InRow r rank → ⊥
+  apart row rows is each rise rank x r m y =
+      let same : x.0 ≡ y.0 = alone rank x.0 y.0 x.1 y.1 in
+      let like : grouped_by by row.shows ≡ grouped_by by r.shows = sym x.3 ∙ ap (grouped_by by) same ∙ y.3 in
+      let lt = later row.least rows r rise m in
+      let le : r.least ≤ row.least =
+      (each r m).least.least row.least
+      (subst (λ t. IsAskedWith kind tables run filters (λ s. grouped_by by s ≡ t) row.least) like is.least.is_so) in
+      omega (arith, lt, le)
+
+  module _ (one : OneRowIsMet) (x : Expectation) (values : x.values ≡ e.values.items) where
+    row-tells : (row : ClassRow) → (meets x.values (seen_of e.look row) ≡ true) ↔ Is row
+    row-tells row = subst (λ vs. (meets vs (seen_of e.look row) ≡ true) ↔ Is row) (sym values) (one e.values.items (seen_of e.look row))
+
+    met-here : (k : ℕ) (row : ClassRow) (rows : List ClassRow) → IsSeen x.seen k (seen_of e.look) (row ∷ rows)
+        → is_met_at x k ≡ meets x.values (seen_of e.look row)
+    met-here k row rows s = ap (meets x.values) (seen-here x.seen k (seen_of e.look) row rows s)
+
+    -- so many orders of the rows are as expected
+    met-number : (k : ℕ) (rows : List ClassRow) → ((r : ClassRow) → Among r rows → IsRow kind tables run filters by r) → RowsRise rows
+        → IsSeen x.seen k (seen_of e.look) rows → IsNumberOf (InSome rows) (met_from x k rows)
+    met-number k [] each rise s = number-none (InSome []) (λ rank p. p.1)
+    met-number k (row ∷ rows) each rise s =
+        at (is_met_at x k) (subst (λ b. (b ≡ true) ↔ Is row) (sym (met-here k row rows s)) (row-tells row))
+        (met-number (k + 1) rows (λ r m. each r (inr m)) rise.1 (seen-next x.seen k (seen_of e.look) row rows s))
+      where
+        own : IsRow kind tables run filters by row
+        own = each row (inl refl)
+
+        at : (b : Bool) → (b ≡ true) ↔ Is row → IsNumberOf (InSome rows) (met_from x (k + 1) rows)
+            → IsNumberOf (InSome (row ∷ rows)) (cond b row.count 0 + met_from x (k + 1) rows)
+        at true tell rec =
+            number-same (λ rank. InRow row rank ⊎ InSome rows rank) (InSome (row ∷ rows)) (row.count + met_from x (k + 1) rows)
+            (λ rank p. ⊎_elim (λ y. (row, inl refl, tell.0 refl, y)) (λ y. (y.0, inr y.1, y.2, y.3)) p) (λ rank p. back rank p.0 p.1 p.2 p.3)
+            (number-sum (InRow row) (InSome rows) row.count (met_from x (k + 1) rows) own.count rec
+            (λ rank y z. apart row rows own (λ r m. each r (inr m)) rise.0 rank y z.0 z.1 z.3))
+          where
+            back : (rank : ℕ) (r : ClassRow) → Among r (row ∷ rows) → Is r → InRow r rank → InRow row rank ⊎ InSome rows rank
+            back rank r (inl same) is y = inl (subst (λ (q : ClassRow). InRow q rank) same y)
+            back rank r (inr m) is y = inr (r, m, is, y)
+        at false tell rec =
+            subst (IsNumberOf (InSome (row ∷ rows))) (let h : met_from x (k + 1) rows ≡ 0 + met_from x (k + 1) rows = omega arith in h)
+            (number-same (InSome rows) (InSome (row ∷ rows)) (met_from x (k + 1) rows) (λ rank y. (y.0, inr y.1, y.2, y.3)) (λ rank p. back rank p.0 p.1 p.2 p.3) rec)
+          where
+            back : (rank : ℕ) (r : ClassRow) → Among r (row ∷ rows) → Is r → InRow r rank → InSome rows rank
+            back rank r (inl same) is y = absurd (let bad : false ≡ true = tell.1 (subst Is same is) in cc)
+            back rank r (inr m) is y = (r, m, is, y)
+
+    -- no row misses; or the first that does, in the order of least ranks
+    abbrev IsFirstOf : List ClassRow → Option (ClassRow × List Event) → Type 0
+    IsFirstOf rows None = (row : ClassRow) → Among row rows → Is row
+    IsFirstOf rows (Some miss) =
+        Among miss.0 rows × (miss.1 ≡ seen_of e.look miss.0) × (Is miss.0 → ⊥) × ((r : ClassRow) → Among r rows → r.least < miss.0.least → Is r)
+
+    first-of : (k : ℕ) (rows : List ClassRow) → RowsRise rows → IsSeen x.seen k (seen_of e.look) rows → IsFirstOf rows (first_miss x k rows)
+    first-of k [] rise s = λ row m. absurd m
+    first-of k (row ∷ rows) rise s =
+        at (is_met_at x k) (get_or x.seen k []) (first_miss x (k + 1) rows) (subst (λ b. (b ≡ true) ↔ Is row) (sym (met-here k row rows s)) (row-tells row))
+        (seen-here x.seen k (seen_of e.look) row rows s) (first-of (k + 1) rows rise.1 (seen-next x.seen k (seen_of e.look) row rows s))
+      where
+        at : (b : Bool) (events : List Event) (rest : Option (ClassRow × List Event)) → (b ≡ true) ↔ Is row → events ≡ seen_of e.look row
+            → IsFirstOf rows rest → IsFirstOf (row ∷ rows) (cond b rest (Some (row, events)))
+        at true events None tell told rec = each
+          where
+            each : (r : ClassRow) → Among r (row ∷ rows) → Is r
+            each r (inl same) = subst Is (sym same) (tell.0 refl)
+            each r (inr m) = rec r m
+        at true events (Some miss) tell told rec = (inr rec.0, rec.1, rec.2, each)
+          where
+            each : (r : ClassRow) → Among r (row ∷ rows) → r.least < miss.0.least → Is r
+            each r (inl same) lt = subst Is (sym same) (tell.0 refl)
+            each r (inr m) lt = rec.3 r m lt
+        at false events rest tell told rec = (inl refl, told, (λ p. (let bad : false ≡ true = tell.1 p in cc)), each)
+          where
+            each : (r : ClassRow) → Among r (row ∷ rows) → r.least < row.least → Is r
+            each r (inl same) lt = absurd (let least : r.least ≡ row.least = ap (λ (y : ClassRow). y.least) same in omega (arith, lt, least))
+            each r (inr m) lt = absurd (let after : row.least < r.least = later row.least rows r rise.0 m in omega (arith, lt, after))
 
 -- ---- of orders
 
--- a row is as expected exactly where the least rank of its class is
-row-tells : (tables : List Table) (spec : Spec) (st : Bound) (vs : List Value) → IsLook tables st → ExpectationsAreSeen → OneRowIsMet
-    → (c : Class Shows) (row : ClassRow) → IsRow tables spec c row → Tells (λ d. Meets spec st vs d.least) c (meets vs (seen_of st row))
-row-tells tables spec st vs look seen one c row is =
-    let by-row = one vs (seen_of st row) in
-    let by-rank = seen tables spec st vs c.least row.shows look is.shows in
-    (λ h. by-rank.1 (by-row.0 h), λ m. by-row.1 (by-rank.0 m))
+module _ (kind : Kind) (tables : List Table) (run : Spec) (filters : List Filter) (by : Grouping) (x : Classed) (is : IsClassed kind tables run filters by x)
+    (seen : ExpectationsAreSeen) where
+  -- the row of an order that is asked for
+  row-of : (rank : ℕ) (ks : List ℕ) → (asked : IsAskedFor kind tables run filters rank ks)
+      → (row : ClassRow) × Among row x.rows.items × (grouped_by by asked.shown ≡ grouped_by by row.shows)
+  row-of rank ks asked = is.all rank asked.shown (ks, asked.order, asked.shows) asked.passes
 
-module _ (tables : List Table) (spec : Spec) (filters : List Filter) (by : Grouping) (gs : List (Class Shows))
-    (are : AreGroups (GroupsBy tables spec filters by) 0 (ranks spec) gs) (e : AskedExpectation)
-    (within : (c : Class Shows) → Among c gs → (r : ℕ) → in_runs c.runs r ≡ true
-    → Meets spec e.look e.values.items r ↔ Meets spec e.look e.values.items c.least) where
-  -- so many orders are as expected
-  met-number : (bs : List Bool) → AllZip (Tells (λ c. Meets spec e.look e.values.items c.least)) gs bs
-      → IsNumberOf (IsAsExpected tables spec filters e) (total gs bs)
-  met-number bs tells =
-      number-same (InPicked (λ c. Meets spec e.look e.values.items c.least) gs) (IsAsExpected tables spec filters e) (total gs bs)
-      (λ r p. (rank-asked tables spec filters by gs are p.0 p.1 r p.3, (within p.0 p.1 r p.3).1 p.2))
-      (λ r x. (let p = asked-in tables spec filters by gs are r x.0 in (p.0, p.1, (within p.0 p.1 r p.2).0 x.1, p.2)))
-      (groups-number (GroupsBy tables spec filters by) 0 (ranks spec) (λ r a b lt p q. one-group tables spec filters by r a b p q)
-      (λ c. Meets spec e.look e.values.items c.least) gs bs are tells)
+  in-row : (rank : ℕ) (ks : List ℕ) (asked : IsAskedFor kind tables run filters rank ks) (row : ClassRow)
+      → grouped_by by asked.shown ≡ grouped_by by row.shows → IsAskedWith kind tables run filters (λ s. grouped_by by s ≡ grouped_by by row.shows) rank
+  in-row rank ks asked row like = (asked.shown, (ks, asked.order, asked.shows), asked.passes, like)
 
-  -- all are, where the least ranks of all classes are
-  all-met : ((c : Class Shows) → Among c gs → Meets spec e.look e.values.items c.least) → AreAsExpected tables spec filters e
-  all-met f r asked = (let p = asked-in tables spec filters by gs are r asked in (within p.0 p.1 r p.2).1 (f p.0 p.1))
+  module _ (e : AskedExpectation) (look : IsLook tables e.look) where
+    abbrev RowIs : ClassRow → Type 0
+    RowIs row = seen_of e.look row ≡ told_by (one_row e.values.items)
 
-  least-met : AreAsExpected tables spec filters e → (c : Class Shows) → Among c gs → Meets spec e.look e.values.items c.least
-  least-met f c m = f c.least (least-asked tables spec filters by gs are c m)
+    meets-as : (row : ClassRow) (rank : ℕ) (ks : List ℕ) (s : Shows) → shows_of_line tables run ks ≡ Some s → grouped_by by s ≡ grouped_by by row.shows
+        → RowIs row ↔ Meets run e.look e.values.items ks
+    meets-as = order-meets kind tables run filters by seen is.alone e look
 
-  -- the first class whose least rank is not
-  least-missed : (c : Class Shows) → Among c gs → (Meets spec e.look e.values.items c.least → ⊥)
-      → ((d : Class Shows) → Among d gs → d.least < c.least → Meets spec e.look e.values.items d.least)
-      → IsLeastOf (IsNotAsExpected tables spec filters e) c.least
-  least-missed c m misses before = record {
-    is_so = (least-asked tables spec filters by gs are c m, misses);
-    least = λ q x.
-        (let p = asked-in tables spec filters by gs are q x.0 in
-        let from : p.0.least ≤ q = (are.each p.0 p.1).is_least q p.2 in
-        let cases : (c.least ≤ q) ⊎ (q < c.least) = grind arith in
-        ⊎_elim (λ le. le) (λ lt. absurd (x.1 ((within p.0 p.1 q p.2).1 (before p.0 p.1 (omega (arith, from, lt)))))) cases);
-  }
+    all-met : ((row : ClassRow) → Among row x.rows.items → RowIs row) → AreAsExpected kind tables run filters e
+    all-met f rank ks asked =
+        let r = row-of rank ks asked in
+        (meets-as r.0 rank ks asked.shown asked.shows r.2).0 (f r.0 r.1)
 
--- the class that is told is that of the least rank
-miss-told : (tables : List Table) (spec : Spec) (filters : List Filter) (e : AskedExpectation) → LooksSeeRanks → IsLook tables e.look
-    → (c : Class Shows) (row : ClassRow) (events : List Event) → IsRow tables spec c row → events ≡ seen_of e.look row
-    → IsLeastOf (IsNotAsExpected tables spec filters e) c.least → IsMissTold tables spec filters e (Some (row, events))
-miss-told tables spec filters e sees look c row events is told least = (
-  subst (IsLeastOf (IsNotAsExpected tables spec filters e)) (sym is.least) least,
-  is.line ∙ ap (line_of spec) (sym is.least),
-  ap (λ r. option_map told_by (look_at spec e.look r)) is.least ∙ ap (option_map told_by) (sees tables spec e.look c.least row.shows look is.shows)
-      ∙ ap Some (sym told),
-)
+    met-all : AreAsExpected kind tables run filters e → (row : ClassRow) → Among row x.rows.items → RowIs row
+    met-all f row m =
+        let own = (is.each row m).least.is_so in
+        let y = own.1 in
+        (meets-as row row.least y.0 own.0 y.2 own.3).1 (f row.least y.0 (record { order = y.1; shown = own.0; shows = y.2; passes = own.2 }))
 
-module _ (tables : List Table) (spec : Spec) (filters : List Filter) (by : Grouping) (x : Classed) (is : IsClassed tables spec filters by x)
-    (decided : AskedAreDecided) (seen : ExpectationsAreSeen) where
-  meets-within : (e : AskedExpectation) → IsLook tables e.look → (c : Class Shows) → Among c is.groups → (r : ℕ) → in_runs c.runs r ≡ true
-      → Meets spec e.look e.values.items r ↔ Meets spec e.look e.values.items c.least
-  meets-within e look = group-meets tables spec filters e.look e.values.items look decided by is.classes is.groups is.passing is.grouped
+    least-missed : (row : ClassRow) → Among row x.rows.items → (RowIs row → ⊥) → ((r : ClassRow) → Among r x.rows.items → r.least < row.least → RowIs r)
+        → IsLeastOf (IsNotAsExpected kind tables run filters e) row.least
+    least-missed row m misses before = record {
+      is_so = not-expected-in kind tables run filters by seen is.alone e look row misses row.least (is.each row m).least.is_so;
+      least = λ q y.
+          (let asked = y.1 in
+          let r = row-of q y.0 asked in
+          let from : r.0.least ≤ q = (is.each r.0 r.1).least.least q (in-row q y.0 asked r.0 r.2) in
+          let cases : (row.least ≤ q) ⊎ (q < row.least) = grind arith in
+          ⊎_elim (λ le. le)
+          (λ lt. absurd (y.2 ((meets-as r.0 q y.0 asked.shown asked.shows r.2).0 (before r.0 r.1 (omega (arith, from, lt)))))) cases);
+    }
 
-  pub expectation-told : LooksSeeRanks → OneRowIsMet → (e : AskedExpectation) → IsLook tables e.look
-      → IsExpectationTold tables spec filters x.rows.items e
-  expectation-told sees one e look = record {
-    met = subst (IsNumberOf (IsAsExpected tables spec filters e)) (sym sum)
-        (met-number tables spec filters by is.groups groups e (meets-within e look) bools tells);
-    first = by-miss (first_miss (expectation_over x.rows.items e) 0 x.rows.items)
-        (first-of tables spec (expectation_over x.rows.items e) (seen_of e.look) (λ c. Meets spec e.look e.values.items c.least) 0 is.groups x.rows.items is.rows
-        groups.rise start tells);
-  }
-    where
-      groups : AreGroups (GroupsBy tables spec filters by) 0 (ranks spec) is.groups
-      groups = groups-are tables spec filters by is.classes is.groups is.passing is.grouped
+    pub expectation-told : OneRowIsMet → LooksSeeLines → IsExpectationTold kind tables run filters x.rows.items e
+    expectation-told one sees-lines = record {
+      met = number-same (InSome kind tables run filters by seen is.alone e look x.rows.items) (IsAsExpected kind tables run filters e)
+          (met_from over 0 x.rows.items) there back
+          (met-number kind tables run filters by seen is.alone e look one over refl 0 x.rows.items is.each is.rise start);
+      first = by-miss (first_miss over 0 x.rows.items) (first-of kind tables run filters by seen is.alone e look one over refl 0 x.rows.items is.rise start);
+    }
+      where
+        abbrev over : Expectation
+        over = expectation_over x.rows.items e
 
-      bools : List Bool
-      bools = map (λ row. meets e.values.items (seen_of e.look row)) x.rows.items
+        start : IsSeen over.seen 0 (seen_of e.look) x.rows.items
+        start j = ap (λ n. get_or (map (seen_of e.look) x.rows.items) n []) (let same : 0 + j ≡ j = omega arith in same)
 
-      tells : AllZip (Tells (λ c. Meets spec e.look e.values.items c.least)) is.groups
-          (map (λ row. meets e.values.items (seen_of e.look row)) x.rows.items)
-      tells =
-          zip-map (IsRow tables spec) (Tells (λ c. Meets spec e.look e.values.items c.least)) (λ row. meets e.values.items (seen_of e.look row))
-          (row-tells tables spec e.look e.values.items look seen one) is.groups x.rows.items is.rows
+        there : (rank : ℕ) → InSome kind tables run filters by seen is.alone e look x.rows.items rank → IsAsExpected kind tables run filters e rank
+        there rank p = expected-in kind tables run filters by seen is.alone e look p.0 p.2 rank p.3
 
-      start : IsSeen (map (seen_of e.look) x.rows.items) 0 (seen_of e.look) x.rows.items
-      start j = ap (λ n. get_or (map (seen_of e.look) x.rows.items) n []) (let same : 0 + j ≡ j = omega arith in same)
+        back : (rank : ℕ) → IsAsExpected kind tables run filters e rank → InSome kind tables run filters by seen is.alone e look x.rows.items rank
+        back rank y =
+            let asked = y.1 in
+            let r = row-of rank y.0 asked in
+            (r.0, r.1, (meets-as r.0 rank y.0 asked.shown asked.shows r.2).1 y.2, in-row rank y.0 asked r.0 r.2)
 
-      sum : met_from (expectation_over x.rows.items e) 0 x.rows.items
-          ≡ total is.groups (map (λ row. meets e.values.items (seen_of e.look row)) x.rows.items)
-      sum = met-total tables spec (expectation_over x.rows.items e) (seen_of e.look) 0 is.groups x.rows.items is.rows start
+        by-miss : (miss : Option (ClassRow × List Event)) → IsFirstOf kind tables run filters by seen is.alone e look one over refl x.rows.items miss
+            → IsMissTold kind tables run filters e miss
+        by-miss None all = all-met all
+        by-miss (Some miss) p =
+            let own = is.each miss.0 p.0 in (
+              least-missed miss.0 p.0 p.2 p.3,
+              own.line,
+              ap (option_map told_by) (sees-lines tables run e.look miss.0.line.items miss.0.shows look own.shows) ∙ ap Some (sym p.1),
+            )
 
-      by-miss : (miss : Option (ClassRow × List Event))
-          → IsFirstOf tables spec (expectation_over x.rows.items e) (seen_of e.look) (λ c. Meets spec e.look e.values.items c.least) is.groups miss
-          → IsMissTold tables spec filters e miss
-      by-miss None all = all-met tables spec filters by is.groups groups e (meets-within e look) all
-      by-miss (Some miss) p =
-          miss-told tables spec filters e sees look p.0 miss.0 miss.1 p.2 p.3
-          (least-missed tables spec filters by is.groups groups e (meets-within e look) p.0 p.1 p.4 p.5)
+    -- ---- what is found
 
-  -- ---- what is found
+    row-met : (rows : List ClassRow) → All RowIs rows ↔ ((row : ClassRow) → Among row rows → RowIs row)
+    row-met [] = (λ all row m. absurd m, λ f. All-nil RowIs)
+    row-met (row ∷ rows) =
+        let rec = row-met rows in (
+          λ all. each (All-head RowIs row rows all) (rec.0 (All-tail RowIs row rows all)),
+          λ f. All-cons RowIs row rows (f row (inl refl)) (rec.1 (λ r m. f r (inr m))),
+        )
+      where
+        each : RowIs row → ((r : ClassRow) → Among r rows → RowIs r) → (r : ClassRow) → Among r (row ∷ rows) → RowIs r
+        each here rest r (inl same) = subst RowIs (sym same) here
+        each here rest r (inr m) = rest r m
 
-  row-met : (e : AskedExpectation) → IsLook tables e.look → (cs : List (Class Shows)) (rows : List ClassRow) → AllZip (IsRow tables spec) cs rows
-      → All (λ row. seen_of e.look row ≡ told_by (one_row e.values.items)) rows
-      ↔ ((c : Class Shows) → Among c cs → Meets spec e.look e.values.items c.least)
-  row-met e look [] [] z = (λ all c m. absurd m, λ f. All-nil (λ row. seen_of e.look row ≡ told_by (one_row e.values.items)))
-  row-met e look [] (row ∷ rows) z = absurd z
-  row-met e look (c ∷ cs) [] z = absurd z
-  row-met e look (c ∷ cs) (row ∷ rows) z =
-      let rec = row-met e look cs rows z.1 in
-      let own = seen tables spec e.look e.values.items c.least row.shows look z.0.shows in (
-        λ all. each (own.1 (All-head (λ r. seen_of e.look r ≡ told_by (one_row e.values.items)) row rows all))
-            (rec.0 (All-tail (λ r. seen_of e.look r ≡ told_by (one_row e.values.items)) row rows all)),
-        λ f. All-cons (λ r. seen_of e.look r ≡ told_by (one_row e.values.items)) row rows (own.0 (f c (inl refl))) (rec.1 (λ d m. f d (inr m))),
-      )
-    where
-      each : Meets spec e.look e.values.items c.least → ((d : Class Shows) → Among d cs → Meets spec e.look e.values.items d.least)
-          → (d : Class Shows) → Among d (c ∷ cs) → Meets spec e.look e.values.items d.least
-      each here rest d (inl same) = subst (λ (y : Class Shows). Meets spec e.look e.values.items y.least) (sym same) here
-      each here rest d (inr m) = rest d m
-
-  pub met-of-orders : (e : AskedExpectation) → IsLook tables e.look → IsMet x.rows.items e ↔ AreAsExpected tables spec filters e
-  met-of-orders e look =
-      let groups = groups-are tables spec filters by is.classes is.groups is.passing is.grouped in
-      let rows = row-met e look is.groups x.rows.items is.rows in (
-        λ all. all-met tables spec filters by is.groups groups e (meets-within e look) (rows.0 all),
-        λ f. rows.1 (least-met tables spec filters by is.groups groups e (meets-within e look) f),
-      )
+  pub met-of-orders : (e : AskedExpectation) → IsLook tables e.look → IsMet x.rows.items e ↔ AreAsExpected kind tables run filters e
+  met-of-orders e look = (
+    λ all. all-met e look ((row-met e look x.rows.items).0 all),
+    λ f. (row-met e look x.rows.items).1 (met-all e look f),
+  )
 
 -- ---- of all that is asked
 

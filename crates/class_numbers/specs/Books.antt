@@ -10,7 +10,7 @@ use Rattle.class_stretches.specs.declared.missing.Missing.{Missing}
 use Rattle.book_stretches.specs.Telling.{Tells}
 use Rattle.book_rows.specs.Classes.{told_alone}
 use Rattle.book_rows.specs.declared.classed.BookClasses.{BookClasses}
-use Rattle.class_numbers.specs.Numbers.{IsNumberOf, IsLeastOf}
+use Rattle.order_classes.specs.Numbers.{IsNumberOf, IsLeastOf}
 
 -- of the rank, which is one of the book's spec, the book tells an outcome of which this is so
 abbrev pub IsToldWith : Contents → (Told → Type 0) → ℕ → Type 0

@@ -1,4 +1,4 @@
--- The laws of numbers of orders: of what is written of the classes of a spec, and of those of books.
+-- The laws of numbers of orders: of what is expected of the orders of a spec, and of the classes of books.
 use Rattle.std.specs.Prelude.{◌≡◌, ◌↔◌, ℕ, List, All}
 use Rattle.wanted_classes.specs.declared.wanted.WantedClasses.{WantedClasses}
 use Rattle.wanted_classes.specs.declared.wanted.WantedOutcomes.{WantedOutcomes}
@@ -6,34 +6,23 @@ use Rattle.book_commands.specs.declared.finding.Finding.{Finding}
 use Rattle.book_commands.specs.declared.finding.Finding.TheVariants.{Good}
 use Rattle.book_commands.specs.Joining.{Files}
 use Rattle.class_commands.specs.Booking.{IsTellingOfBooks}
-use Rattle.class_commands.specs.Classing.{IsFoundIn, IsTellingOf, grouping}
+use Rattle.class_commands.specs.Classing.{IsFoundIn, IsTellingOf}
+use Rattle.spec_schedules.specs.declared.kind.Kind.TheVariants.{Permutations}
 use Rattle.class_numbers.specs.Numbers.{AreAsExpected}
-use Rattle.class_numbers.specs.Told.{AreTotalsTold, IsExpectationTold, IsRowTold}
+use Rattle.class_numbers.specs.Told.{IsExpectationTold}
 use Rattle.class_numbers.specs.Books.{AreTold}
 
 -- of each expectation the number of orders and the first miss are those of the orders that are asked for
 abbrev pub ExpectationsAreOfOrders : Type 0
 ExpectationsAreOfOrders =
     (bytes path : List ℕ) (wanted : WantedClasses) (text : List ℕ) (t : IsTellingOf bytes path wanted text)
-    → All (IsExpectationTold t.tables t.file.run t.asked.filters.items t.classed.rows.items) t.asked.expectations.items
+    → All (IsExpectationTold Permutations t.tables t.file.run t.asked.filters.items t.classed.rows.items) t.asked.expectations.items
 
 -- nothing is amiss exactly where each order that is asked for is as expected
 abbrev pub FindingsAreOfOrders : Type 0
 FindingsAreOfOrders =
     (bytes path : List ℕ) (wanted : WantedClasses) (text : List ℕ) (t : IsTellingOf bytes path wanted text) (finding : Finding)
-    → IsFoundIn t finding → (finding ≡ Good) ↔ All (AreAsExpected t.tables t.file.run t.asked.filters.items) t.asked.expectations.items
-
--- the totals count orders
-abbrev pub TotalsAreOfOrders : Type 0
-TotalsAreOfOrders =
-    (bytes path : List ℕ) (wanted : WantedClasses) (text : List ℕ) (t : IsTellingOf bytes path wanted text)
-    → AreTotalsTold t.tables t.file.run t.asked.filters.items t.classed.totals
-
--- each class has all orders that are asked for and are alike
-abbrev pub RowsAreOfOrders : Type 0
-RowsAreOfOrders =
-    (bytes path : List ℕ) (wanted : WantedClasses) (text : List ℕ) (t : IsTellingOf bytes path wanted text)
-    → All (IsRowTold t.tables t.file.run t.asked.filters.items (grouping wanted.answers)) t.classed.rows.items
+    → IsFoundIn t finding → (finding ≡ Good) ↔ All (AreAsExpected Permutations t.tables t.file.run t.asked.filters.items) t.asked.expectations.items
 
 -- of books the totals count orders, each class has all orders of its outcome, and so many are missing as have none
 abbrev pub BooksAreOfOrders : Type 0

@@ -1,17 +1,16 @@
 //! The laws of numbers of orders, each the contract of a function that does nothing but cite others.
 
-ghost use Rattle.class_numbers.specs.Laws.{BooksAreOfOrders, ExpectationsAreOfOrders, FindingsAreOfOrders, RowsAreOfOrders, TotalsAreOfOrders};
+ghost use Rattle.class_numbers.specs.Laws.{BooksAreOfOrders, ExpectationsAreOfOrders, FindingsAreOfOrders};
 
-use class_looks::{asked_are_decided, expectations_are_seen, looks_see_ranks};
+use class_looks::{expectations_are_seen, looks_see_lines};
 use class_texts::one_row_is_met;
 
 /// It is told to be so of as many orders as are asked for and as expected, and the first is told that is asked for and is not.
 pub fn expectations_are_of_orders()
     ensures { ExpectationsAreOfOrders }
 {
-    asked_are_decided();
     expectations_are_seen();
-    looks_see_ranks();
+    looks_see_lines();
     one_row_is_met();
 }
 
@@ -19,19 +18,8 @@ pub fn expectations_are_of_orders()
 pub fn findings_are_of_orders()
     ensures { FindingsAreOfOrders }
 {
-    asked_are_decided();
     expectations_are_seen();
 }
-
-/// The totals are the numbers of orders that are asked for, and of those that have the letters.
-pub fn totals_are_of_orders()
-    ensures { TotalsAreOfOrders }
-{}
-
-/// A class has the number of orders that are asked for and show what it does, or answer so, and the least rank of these.
-pub fn rows_are_of_orders()
-    ensures { RowsAreOfOrders }
-{}
 
 /// Of books the totals and classes have the numbers of orders whose outcome they tell, and so many are missing as have none.
 pub fn books_are_of_orders()

@@ -3,7 +3,4 @@
 
 mod laws;
 
-pub use laws::{
-    books_are_of_orders, expectations_are_of_orders, findings_are_of_orders, rows_are_of_orders,
-    totals_are_of_orders,
-};
+pub use laws::{books_are_of_orders, expectations_are_of_orders, findings_are_of_orders};

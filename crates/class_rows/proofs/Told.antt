@@ -208,6 +208,7 @@ module _ (kind : Kind) (tables : List Table) (run : Spec) (filters : List Filter
         (let p = passing-of rank s shown passes in
         let r = rows.all p.0 p.1 in
         (r.1, at-among x.rows.items r.0 r.1 r.2, ap (told_by by) (sym p.2) ∙ r.3));
+    alone = added.alone;
     rise = rows-rise x.rows.items rows.rise;
     totals = subst (AreTotals kind tables run filters x.rows.items) (sym totals) (totals-told x.rows.items);
   }

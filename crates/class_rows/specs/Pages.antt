@@ -95,5 +95,7 @@ module _ (kind : Kind) (tables : List Table) (run : Spec) (filters : List Filter
     pub each : (row : ClassRow) → Among row x.rows.items → IsRow by row
     pub all : (rank : ℕ) (s : Shows) → ShowsAt kind tables run rank s → Passes tables run filters s
         → (row : ClassRow) × Among row x.rows.items × (told_by by s ≡ told_by by row.shows)
+    -- a rank shows one thing
+    pub alone : (rank : ℕ) (s t : Shows) → ShowsAt kind tables run rank s → ShowsAt kind tables run rank t → s ≡ t
     pub rise : RowsRise x.rows.items
     pub totals : AreTotals x.rows.items x.totals

@@ -6,4 +6,4 @@ mod headway;
 mod progress;
 
 pub use cutting::{SHARD_RANKS, shards_of};
-pub use progress::Progress;
+pub use progress::{Pace, Progress};
