@@ -223,6 +223,9 @@ module _ (kind : Kind) (tables : List Table) (run : Spec) (filters : List Filter
           (λ lt. absurd (y.2 ((meets-as r.0 q y.0 asked.shown asked.shows r.2).0 (before r.0 r.1 (omega (arith, from, lt)))))) cases);
     }
 
+    abbrev over : Expectation
+    over = expectation_over x.rows.items e
+
     pub expectation-told : OneRowIsMet → LooksSeeLines → IsExpectationTold kind tables run filters x.rows.items e
     expectation-told one sees-lines = record {
       met = number-same (InSome kind tables run filters by seen is.alone e look x.rows.items) (IsAsExpected kind tables run filters e)
@@ -231,9 +234,6 @@ module _ (kind : Kind) (tables : List Table) (run : Spec) (filters : List Filter
       first = by-miss (first_miss over 0 x.rows.items) (first-of kind tables run filters by seen is.alone e look one over refl 0 x.rows.items is.rise start);
     }
       where
-        abbrev over : Expectation
-        over = expectation_over x.rows.items e
-
         start : IsSeen over.seen 0 (seen_of e.look) x.rows.items
         start j = ap (λ n. get_or (map (seen_of e.look) x.rows.items) n []) (let same : 0 + j ≡ j = omega arith in same)
 
