@@ -5,7 +5,7 @@ use Rattle.std.specs.List.{slice_get}
 use Rattle.std.proofs.lemmas.Bool.{leb-true, ltb-true, le-leb, lt-ltb, and_parts, and_from, or_cases, or_left, or_right, eqb-true, eqb-false}
 use Rattle.std.proofs.lemmas.Option.{slice_get_within}
 use Rattle.lock_queues.specs.Reasons.{Among}
-use Rattle.class_stretches.specs.Classes.{Run, in_run, in_runs, ranks_in, AreApart, Class, IsClass, AllLater, LeastsRise, IsClasses, AreGroups}
+use Rattle.class_stretches.specs.Classes.{Run, in_run, in_runs, ranks_in, AreApart, Class, IsClass, AllLater, LeastsRise, AreGroups}
 use Rattle.class_stretches.specs.declared.stretch.Stretch.{Stretch}
 use Rattle.class_stretches.specs.declared.tally.Tally.{Tally}
 use Rattle.class_stretches.specs.Stretches.{class_at, end_from, end_of, same_class, BeginsOther, AreStretches, MayCome, with_class, AreInOrder, Stretched, IsStretched, runs_with, least_of, tally_of, AreTallies}
@@ -274,16 +274,6 @@ module _ {A : Type 0} where
         let number : x.0 ≡ y.0 = differ x.0 y.0 y.1 (x.2 ∙ ap Some shown) y.2 in
         x.3 ∙ ap (λ k. class_by s.list (0 + k) x.1) number ∙ ap (λ z. class_by s.list (0 + y.0) z) shown ∙ sym y.3);
     rise = leasts-rise 0 s.classes s.list shows is.stretches is.order (omega (arith, all));
-  }
-
-  -- where each rank of the range shows something, groups are classes
-  pub groups-classes : (show : ℕ → A → Type 0) (first end : ℕ) (cs : List (Class A)) → AreGroups show first end cs
-      → ((r : ℕ) → first ≤ r → r < end → (a : A) × show r a) → IsClasses show first end cs
-  groups-classes show first end cs g all = record {
-    each = g.each;
-    together = λ r from lt. (let s = all r from lt in g.together r s.0 from lt s.1);
-    between = g.between;
-    rise = g.rise;
   }
 
   -- where no rank is missing, each one shows something

@@ -6,6 +6,5 @@ pub mod Places
 pub mod Adding
 pub mod Tallies
 pub mod Passes
-pub mod Renumbered
 pub mod Groups
 pub mod MissingTold

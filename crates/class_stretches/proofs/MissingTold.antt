@@ -1,8 +1,7 @@
 -- What is told of missing ranks.
-use Rattle.std.proofs.Common.{◌≡◌, refl, sym, ap, subst, ℕ, ◌<◌, ◌≤◌, true, false, nat_lt, Option, Some, None, List, [], ◌∷◌, arith}
+use Rattle.std.proofs.Common.{◌≡◌, refl, sym, ap, subst, ℕ, ◌<◌, ◌≤◌, true, false, nat_lt, None, List, [], ◌∷◌, arith}
 use Rattle.std.proofs.lemmas.Bool.{ltb-true, lt-ltb, and_parts, and_from, false_from_ne_true}
 use Rattle.class_stretches.specs.Classes.{Run, in_runs, ranks_in, AreApart, Class, IsClass}
-use Rattle.order_classes.specs.Numbers.{IsNumberOf}
 use Rattle.class_stretches.proofs.Counted.{class-number}
 use Rattle.class_stretches.specs.declared.stretch.Stretch.{Stretch}
 use Rattle.class_stretches.specs.Stretches.{class_at, end_of, same_class, AreStretches, Stretched, IsStretched, runs_with, missing_by}

@@ -1,5 +1,5 @@
 -- Classes of ranks by what they show.
-use Rattle.std.specs.Prelude.{◌≡◌, ◌↔◌, length, ℕ, suc, ◌+◌, ◌-◌, ◌<◌, ◌≤◌, Bool, true, false, ◌&&◌, ◌||◌, nat_le, nat_lt, List, [], ◌∷◌}
+use Rattle.std.specs.Prelude.{◌≡◌, ℕ, suc, ◌+◌, ◌-◌, ◌<◌, ◌≤◌, Bool, true, false, ◌&&◌, ◌||◌, nat_le, nat_lt, List, [], ◌∷◌}
 use Rattle.lock_queues.specs.Reasons.{Among}
 
 -- ranks from the first up to but not the end

@@ -1,7 +1,7 @@
 -- Classes of ranks by their stretches, and what each of them shows.
 use Rattle.std.specs.Prelude.{◌≡◌, ℕ, suc, ◌<◌, ◌≤◌, Bool, true, false, ◌&&◌, nat_lt, Option, Some, None, List, [], ◌∷◌, length, map}
 use Rattle.std.specs.List.{slice_get}
-use Rattle.class_stretches.specs.Classes.{Class, ranks_in, IsClasses, AreGroups}
+use Rattle.class_stretches.specs.Classes.{Class, ranks_in, AreGroups}
 use Rattle.order_classes.specs.Numbers.{IsNumberOf}
 use Rattle.class_stretches.specs.declared.stretch.Stretch.{Stretch}
 use Rattle.class_stretches.specs.declared.tally.Tally.{Tally}
@@ -41,12 +41,6 @@ AllDiffer {A} shows = (n m : ℕ) (a : A) → slice_get shows n ≡ Some a → s
 pub record StretchesAreGroups : Type 0 where
   pub groups : (s : Stretched) (shows : List ℕ) → IsStretched s → length shows ≡ s.classes → AllDiffer shows
       → AreGroups (ShowsBy s.list shows) 0 (end_of s.list) (classes_by s.list shows)
-
--- where each rank of the range is in a class, the groups are the classes of the range
-pub record GroupsAreClasses : Type 0 where
-  pub classes : (s : Stretched) (shows : List ℕ) → AreGroups (ShowsBy s.list shows) 0 (end_of s.list) (classes_by s.list shows)
-      → ((r : ℕ) → r < end_of s.list → (a : ℕ) × ShowsBy s.list shows r a)
-      → IsClasses (ShowsBy s.list shows) 0 (end_of s.list) (classes_by s.list shows)
 
 -- where no rank is missing, each one of the range is in a class that there is
 pub record NoneIsMissing : Type 0 where

@@ -3,5 +3,4 @@ pub mod Stretches
 pub mod Growing
 pub mod Copying
 pub mod Counting
-pub mod Mapping
 pub mod Groups

@@ -1,15 +1,10 @@
 //! The laws of stretches, each the contract of a function that does nothing.
 
-ghost use Rattle.class_stretches.specs.Groups.{StretchesAreGroups, GroupsAreClasses, NoneIsMissing, MissingAreTold, TalliesAreOfClasses};
+ghost use Rattle.class_stretches.specs.Groups.{StretchesAreGroups, NoneIsMissing, MissingAreTold, TalliesAreOfClasses};
 
 /// Stretches give the groups of the ranks by what their classes show.
 pub fn stretches_are_groups()
     ensures { StretchesAreGroups }
-{}
-
-/// Where each rank is in a class, groups are classes.
-pub fn groups_are_classes()
-    ensures { GroupsAreClasses }
 {}
 
 /// Where no rank is missing, each one is in a class that there is.

@@ -4,17 +4,13 @@
 mod copying;
 mod laws;
 mod list;
-mod mapping;
 mod missing;
 mod rank_run;
 mod stretch;
 mod stretches;
 mod tally;
 
-pub use laws::{
-    groups_are_classes, missing_are_told, none_is_missing, stretches_are_groups,
-    tallies_are_of_classes,
-};
+pub use laws::{missing_are_told, none_is_missing, stretches_are_groups, tallies_are_of_classes};
 pub use missing::Missing;
 pub use rank_run::RankRun;
 pub use stretch::Stretch;

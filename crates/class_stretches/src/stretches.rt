@@ -3,11 +3,9 @@
 ghost use Rattle.std.specs.Prelude.{◌≡◌, ◌+◌, ◌-◌, ◌^◌, ◌<◌, ◌≤◌, Some, None, [], OnOk, OnErr, IfOk, IfSome, length, map};
 ghost use Rattle.class_stretches.specs.Stretches.{class_at, end_of, IsStretchAt, IsStretched, MayCome, with_class, IsPushed, IsCopied};
 ghost use Rattle.class_stretches.specs.Stretches.{missing_by, runs_with, run_of, AreRunsBy, AreTallies};
-ghost use Rattle.class_stretches.specs.Mapping.{HaveOrder, IsMapped};
 
 use crate::copying::copy_list;
 use crate::list::{class_in, classes_with, end_of_list, put, stretch_in};
-use crate::mapping::mapped_list;
 use crate::missing::{Missing, first_missing_in, missing_in};
 use crate::rank_run::{RankRun, runs_by, runs_in};
 use crate::stretch::Stretch;
@@ -146,16 +144,5 @@ impl Stretches {
         ensures { IfOk result (λ runs. AreRunsBy self.now.list self.now.classes runs.items) }
     {
         runs_by(alloc, &self.list, self.classes)
-    }
-
-    /// The same ranks in the classes that theirs become: the class `c` becomes `numbers[c]`, or is not known where there is none. Classes may
-    /// become one. The new numbers come in their order.
-    pub fn mapped(&self, alloc: Global, numbers: &[Option<u32>]) -> Result<Stretches, AllocError>
-        requires all { length numbers.now ≡ self.now.classes }
-        requires order { HaveOrder numbers.now }
-        ensures { IfOk result (λ new. IsMapped self.now new numbers.now) }
-    {
-        let _classes = self.classes; // for the proof
-        mapped_list(alloc, &self.list, numbers)
     }
 }

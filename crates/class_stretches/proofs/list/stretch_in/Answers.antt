@@ -1,6 +1,6 @@
 use Rattle.class_stretches.proofs.Places.{place-stretch, ends-before}
 use Rattle.class_stretches.proofs.list.stretch_in.Goals as goal
-use Rattle.std.proofs.Common.{refl, arith}
+use Rattle.std.proofs.Common.{arith}
 
 pub returns-then-place-list-clause-found : goal.returns-then-place-list-clause-found
 returns-then-place-list-clause-found c =
