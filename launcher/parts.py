@@ -13,7 +13,7 @@ import sys
 
 # The crates of the first part are those that these stand on, but for those that the reader of specs stands on and the walk does not; and of the kit's crates
 # all but these.
-RUNS, READS, WALKS = ["book_audit", "book_files", "class_groups"], "spec_binding", "step_reducer"
+RUNS, READS, WALKS = ["book_audit", "book_files", "spec_classes"], "spec_binding", "step_reducer"
 NOT_OF_KIT = {"clap", "json", "serde_json"}
 PARTS = 3
 # A function of so many lines at most is short.
