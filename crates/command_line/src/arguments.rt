@@ -35,7 +35,7 @@ enum Form {
     Books,
     /// `--name`
     Flag,
-    /// `--name`, where books are named.
+    /// `--name`, where books are named in place of a spec.
     FlagOfBooks,
     /// `--name`, of which some flags are refused.
     Page,
@@ -328,6 +328,9 @@ static NOT_OF_BOOKS: &[&str] = &[
     "progress",
 ];
 
+/// What stands for a spec.
+static OF_SPEC: &[&str] = &["SPEC"];
+
 /// What does not go with a page.
 static NOT_OF_PAGES: &[&str] = &["json", "brief"];
 
@@ -358,7 +361,7 @@ fn ruled<'a>(form: Form, arg: Arg<'a>) -> Result<Arg<'a>, AllocError> {
         Form::OneOrBooks => arg.required(false).required_unless_present("book"),
         Form::FirstOfAll => arg.required(false).requires_arg("END"),
         Form::EndOfAll => Ok(arg.required(false)),
-        Form::FlagOfBooks => arg.requires_arg("book"),
+        Form::FlagOfBooks => arg.conflicts_with_all(OF_SPEC),
         Form::Page => arg.conflicts_with_all(NOT_OF_PAGES),
         Form::InPlaceOfSpec => arg.conflicts_with_all(NOT_OF_BOOKS),
         _ => Ok(arg),
