@@ -225,13 +225,13 @@ empty-next n ts h = record {
 
 -- ---- by the places of states
 
-take-next : (xs : List FinalState) (i : ℕ) (d : FinalState) → i < length xs → take (i + 1) xs ≡ take i xs ++ get_or xs i d ∷ []
-take-next xs i d lt = ap (λ k. take k xs) (add-one i) ∙ at xs i lt
-  where
-    at : (ys : List FinalState) (k : ℕ) → k < length ys → take (suc k) ys ≡ take k ys ++ get_or ys k d ∷ []
-    at [] k l = absurd (omega arith)
-    at (y ∷ ys) zero l = refl
-    at (y ∷ ys) (suc k) l = ap (λ r. y ∷ r) (at ys k (omega arith))
+take-suc : {T : Type 0} (ys : List T) (k : ℕ) (d : T) → k < length ys → take (suc k) ys ≡ take k ys ++ get_or ys k d ∷ []
+take-suc [] k d l = absurd (omega arith)
+take-suc (y ∷ ys) zero d l = refl
+take-suc (y ∷ ys) (suc k) d l = ap (λ r. y ∷ r) (take-suc ys k d (omega arith))
+
+pub take-next : {T : Type 0} (xs : List T) (i : ℕ) (d : T) → i < length xs → take (i + 1) xs ≡ take i xs ++ get_or xs i d ∷ []
+take-next xs i d lt = ap (λ k. take k xs) (add-one i) ∙ take-suc xs i d lt
 
 has-taken : {T : Type 0} (xs : List T) (i : ℕ) (x : T) → Has x (take i xs) → Has x xs
 has-taken [] zero x h = h

@@ -7,6 +7,7 @@ ghost use Rattle.session_steps.specs.Refused.{IsRefusedBy};
 ghost use Rattle.session_steps.specs.declared.error.StartError.{StartError};
 ghost use Rattle.schedule_counts.specs.declared.counting.StatesError.TheVariants.{Start};
 ghost use Rattle.schedule_counts.specs.Classes.{AreClasses};
+ghost use Rattle.schedule_counts.specs.States.{AreFinalStates};
 ghost use Rattle.spec_classes.specs.Classes.{AreClassesOf};
 ghost use Rattle.spec_classes.specs.Showing.{IsAtStart};
 
@@ -85,6 +86,7 @@ fn line_classes(
     ensures { IfOk result (λ classes. AreClassesOf kind tables.now spec.now.run classes.items) }
 {
     let found = line_states(alloc, world, spec, tables)?;
+    spec.ready();
     found.shows.known();
     ranks_are_unique();
     told_classes(alloc, world, spec, kind, &found.shows, &found.states)
@@ -101,9 +103,10 @@ fn word_classes(
 ) -> Result<Vec<OrderClass>, SendError>
     requires at { IsAtStart spec.now world.old }
     requires words { spec.now.run.lines ≡ [] }
-    requires counted { (w : World) × (start spec.now.run ≡ Started w) × AreClasses kind tables.now spec.now.run w found.now.shows found.now.states.items }
+    requires counted { (w : World) × (start spec.now.run ≡ Started w) × AreFinalStates kind tables.now spec.now.run w found.now.shows found.now.states.items × AreClasses kind tables.now spec.now.run w found.now.shows found.now.states.items }
     ensures { IfOk result (λ classes. AreClassesOf kind tables.now spec.now.run classes.items) }
 {
+    spec.ready();
     found.shows.known();
     each_order_has_a_rank();
     ranks_are_unique();
