@@ -49,9 +49,9 @@ OPEN = {"in": "is in a transaction", "failed": "is in a failed block"}
 BLOCKS = {"in": "is in a transaction", "failed": "is in a failed block, which takes COMMIT and ROLLBACK alone,", "out": "has no transaction open"}
 # Words of `isofarm classes` with which pages are made beside those without words.
 OF_EXAMPLES = {
-    "deadlock": [["--answers"], ["--ranks", "--deadlock", "--no-stuck"], ["--look", "SELECT v FROM t WHERE id = 1", "--expect", "SELECT sum(v) FROM t", "32"]],
+    "deadlock": [["--answers"], ["--deadlock", "--no-stuck"], ["--look", "SELECT v FROM t WHERE id = 1", "--expect", "SELECT sum(v) FROM t", "32"]],
     "lost_update": [["--expect", "SELECT * FROM t", "1", "12", "--look", "SELECT * FROM t"], ["--stuck"]],
-    "share_beside_update": [["--ranks", "--serial"], ["--answers", "--ranks"]],
+    "share_beside_update": [["--serial"], ["--answers"]],
     "many": [["--answers"]],
 }
 
