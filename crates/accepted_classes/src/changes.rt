@@ -1,8 +1,7 @@
 //! How the classes of today differ from those that were accepted.
 
-use crate::classes::{ReadClasses, read_classes};
-use crate::lines::{LinePlace, SessionFault, add_faults, each_once, first_line, left_of, without};
-use class_differences::{Difference, differing_ranks};
+use crate::classes::{ReadClass, ReadClasses, ReadText, read_classes};
+use crate::lines::{SessionFault, add_faults, each_once, left_of, without};
 use std::alloc::{AllocError, Global};
 
 /// How two texts of classes differ.
@@ -10,38 +9,31 @@ use std::alloc::{AllocError, Global};
 pub enum Changes<'t> {
     /// One of them is no text of classes.
     Unread,
-    /// They tell of the same number of orders, and no order shows another thing than it did.
+    /// The accepted one is of an earlier version.
+    Earlier,
+    /// They tell of the same number of orders, and of the same classes.
     None,
-    /// They tell of the same number of orders, some of which show other things than they did.
-    Orders(ChangedOrders<'t>),
+    /// They tell of the same number of orders, in other classes.
+    Classes(ChangedClasses<'t>),
     /// They tell of other orders: steps came or went. What they leave, and who can fail in them, is compared.
     Others(ChangedEnds<'t>),
 }
 
-/// Orders that show other things than they did.
+/// Which classes differ, by their lines of the table, in the order of the texts.
 #[derive(Drop)]
-pub struct ChangedOrders<'t> {
-    /// How many orders there are.
-    pub orders: u64,
-    /// How many of them differ.
-    pub ranks: u64,
-    /// The first of them.
-    pub first: ChangedOrder<'t>,
-    /// The lines of the classes that are there no more, in their order.
+pub struct ChangedClasses<'t> {
+    /// Those that show what none of today does.
     pub gone: Vec<&'t str>,
-    /// The lines of the classes that were not there, in their order.
+    /// Those that show what none of the accepted ones does.
     pub come: Vec<&'t str>,
+    /// Those that show the same, in another number of orders or with another first one.
+    pub changed: Vec<ChangedLine<'t>>,
 }
 
-/// The first order that differs.
+/// The line of a class, as it was and as it is.
 #[derive(Clone, Copy)]
-pub struct ChangedOrder<'t> {
-    pub rank: u64,
-    /// The line of the session, or of the table, in which the first line that differs is.
-    pub below: &'t str,
-    /// What was told there.
+pub struct ChangedLine<'t> {
     pub was: &'t str,
-    /// What is told there.
     pub is: &'t str,
 }
 
@@ -66,73 +58,100 @@ pub fn compare_texts<'t>(
     accepted: &'t str,
     text: &'t str,
 ) -> Result<Changes<'t>, AllocError> {
-    let Some(was) = read_classes(alloc, accepted)? else {
+    let was = match read_classes(alloc, accepted)? {
+        ReadText::Unread => return Ok(Changes::Unread),
+        ReadText::Earlier => return Ok(Changes::Earlier),
+        ReadText::Classes(classes) => classes,
+    };
+    let ReadText::Classes(is) = read_classes(alloc, text)? else {
         return Ok(Changes::Unread);
     };
-    let Some(is) = read_classes(alloc, text)? else {
-        return Ok(Changes::Unread);
-    };
-    if was.stretches.end() != is.stretches.end() {
+    if was.orders != is.orders {
         return Ok(Changes::Others(changed_ends(alloc, &was, &is)?));
     }
-    match differing_ranks(alloc, &was.stretches, &was.shown, &is.stretches, &is.shown)? {
-        None => Ok(Changes::None),
-        Some(differ) => Ok(Changes::Orders(changed_orders(alloc, &was, &is, differ)?)),
+    let classes = changed_classes(alloc, &was, &is)?;
+    if classes.gone.is_empty() && classes.come.is_empty() && classes.changed.is_empty() {
+        return Ok(Changes::None);
     }
+    Ok(Changes::Classes(classes))
 }
 
-fn changed_orders<'t>(
+fn changed_classes<'t>(
     alloc: Global,
     was: &ReadClasses<'t>,
     is: &ReadClasses<'t>,
-    differ: Difference,
-) -> Result<ChangedOrders<'t>, AllocError> {
-    let place = place_at(was, is, differ.first);
-    Ok(ChangedOrders {
-        orders: is.stretches.end(),
-        ranks: differ.ranks,
-        first: ChangedOrder {
-            rank: differ.first,
-            below: place.below,
-            was: place.was,
-            is: place.is,
-        },
-        gone: lines_without(alloc, was, is)?,
-        come: lines_without(alloc, is, was)?,
+) -> Result<ChangedClasses<'t>, AllocError> {
+    let old = by_shown(alloc, was)?;
+    let new = by_shown(alloc, is)?;
+    Ok(ChangedClasses {
+        gone: lines_without(alloc, was, &new)?,
+        come: lines_without(alloc, is, &old)?,
+        changed: changed_lines(alloc, is, &old)?,
     })
 }
 
-/// The first line that differs at a rank.
-fn place_at<'t>(was: &ReadClasses<'t>, is: &ReadClasses<'t>, rank: u64) -> LinePlace<'t> {
-    first_line(shown_at(was, rank), shown_at(is, rank))
+/// The classes in the order of what they show.
+fn by_shown<'t>(
+    alloc: Global,
+    classes: &ReadClasses<'t>,
+) -> Result<Vec<ReadClass<'t>>, AllocError> {
+    let mut sorted = Vec::new(alloc);
+    for class in &classes.classes {
+        sorted.push(*class)?;
+    }
+    sorted.sort_unstable_by_key(|class: &ReadClass<'t>| class.shown);
+    Ok(sorted)
 }
 
-/// What a rank shows.
-fn shown_at<'t>(classes: &ReadClasses<'t>, rank: u64) -> &'t str {
-    let Some(class) = classes.stretches.class_of(rank) else {
-        return "";
-    };
-    let place = class as usize;
-    if place < classes.shown.len() {
-        return classes.shown[place];
-    }
-    ""
+/// The class that shows this, if one does.
+fn class_showing<'t>(sorted: &[ReadClass<'t>], shown: &str) -> Option<ReadClass<'t>> {
+    let place = sorted
+        .binary_search_by(|class: &ReadClass<'t>| class.shown.cmp(shown))
+        .ok()?;
+    sorted.get(place).copied()
 }
 
 /// The lines of the classes that show what none of the others does.
 fn lines_without<'t>(
     alloc: Global,
     classes: &ReadClasses<'t>,
-    others: &ReadClasses<'_>,
+    others: &[ReadClass<'_>],
 ) -> Result<Vec<&'t str>, AllocError> {
-    let shown = each_once(alloc, &others.shown)?;
     let mut lines = Vec::new(alloc);
-    for (line, shows) in classes.lines.iter().zip(classes.shown.iter()) {
-        if shown.binary_search(shows).is_err() {
-            lines.push(*line)?;
+    for class in &classes.classes {
+        if class_showing(others, class.shown).is_none() {
+            lines.push(class.line)?;
         }
     }
     Ok(lines)
+}
+
+/// The lines of the classes that show what one of the others does, and have another number of orders or another first one.
+fn changed_lines<'t>(
+    alloc: Global,
+    classes: &ReadClasses<'t>,
+    others: &[ReadClass<'t>],
+) -> Result<Vec<ChangedLine<'t>>, AllocError> {
+    let mut changed = Vec::new(alloc);
+    for class in &classes.classes {
+        if let Some(other) = class_showing(others, class.shown) {
+            if without_number(other.line) != without_number(class.line) {
+                changed.push(ChangedLine {
+                    was: other.line,
+                    is: class.line,
+                })?;
+            }
+        }
+    }
+    Ok(changed)
+}
+
+/// The line of a class without its number, which it begins with.
+fn without_number(line: &str) -> &str {
+    match line.trim_start().split_once(" ") {
+        Some((_number, behind)) => behind.trim_start(),
+        None => line,
+    }
 }
 
 fn changed_ends<'t>(
@@ -145,8 +164,8 @@ fn changed_ends<'t>(
     let old_faults = faults(alloc, was)?;
     let new_faults = faults(alloc, is)?;
     Ok(ChangedEnds {
-        were: was.stretches.end(),
-        are: is.stretches.end(),
+        were: was.orders,
+        are: is.orders,
         left_no_more: without(alloc, &old_left, &new_left)?,
         left_now: without(alloc, &new_left, &old_left)?,
         faults_no_more: faults_without(alloc, &old_faults, &new_faults)?,
@@ -157,8 +176,8 @@ fn changed_ends<'t>(
 /// What classes leave, each once.
 fn lefts<'t>(alloc: Global, classes: &ReadClasses<'t>) -> Result<Vec<&'t str>, AllocError> {
     let mut all = Vec::new(alloc);
-    for shows in &classes.shown {
-        all.push(left_of(shows))?;
+    for class in &classes.classes {
+        all.push(left_of(class.shown))?;
     }
     each_once(alloc, &all)
 }
@@ -169,8 +188,8 @@ fn faults<'t>(
     classes: &ReadClasses<'t>,
 ) -> Result<Vec<SessionFault<'t>>, AllocError> {
     let mut all = Vec::new(alloc);
-    for shows in &classes.shown {
-        add_faults(shows, &mut all)?;
+    for class in &classes.classes {
+        add_faults(class.shown, &mut all)?;
     }
     all.sort_unstable();
     all.dedup();

@@ -1,77 +1,64 @@
 //! The classes of an accepted text.
 
 use crate::paragraphs::{next_class, orders_in, parts_of};
-use crate::ranges::{ClassRange, take_ranges};
-use class_stretches::Stretches;
 use std::alloc::{AllocError, Global};
+
+/// What the ranges of a class began with, which texts of an earlier version have.
+const RANGES: &str = "ranks ";
+
+/// A class as a text has it.
+#[derive(Clone, Copy)]
+pub struct ReadClass<'t> {
+    /// Its line of the table: how many orders it has, and which is the first.
+    pub line: &'t str,
+    /// What its first order tells, and what is left.
+    pub shown: &'t str,
+}
 
 /// Classes as a text has them.
 #[derive(Drop)]
 pub struct ReadClasses<'t> {
-    /// Which class each rank is in.
-    pub stretches: Stretches,
-    /// Of each class the line of the table that it has.
-    pub lines: Vec<&'t str>,
-    /// What each class shows: what its least order tells, and what is left.
-    pub shown: Vec<&'t str>,
+    /// How many orders the text tells of.
+    pub orders: u64,
+    /// The classes in the order of the text.
+    pub classes: Vec<ReadClass<'t>>,
 }
 
-/// The classes of a text, as `isofarm classes` prints it with ranks, with outcomes and with what is left. `None` where the text is none such: its
-/// classes do not stand in the order of their least ranks, or a rank of its orders is in none of them, or in two.
-pub fn read_classes<'t>(
-    alloc: Global,
-    text: &'t str,
-) -> Result<Option<ReadClasses<'t>>, AllocError> {
+/// What is read of an accepted text.
+#[derive(Drop)]
+pub enum ReadText<'t> {
+    /// It is no text of classes.
+    Unread,
+    /// It has the ranks of classes, as texts of an earlier version do.
+    Earlier,
+    Classes(ReadClasses<'t>),
+}
+
+/// The classes of a text, as `isofarm classes` prints it with outcomes and with what is left.
+pub fn read_classes<'t>(alloc: Global, text: &'t str) -> Result<ReadText<'t>, AllocError> {
     let Some(parts) = parts_of(text) else {
-        return Ok(None);
+        return Ok(ReadText::Unread);
     };
     let Some(orders) = orders_in(parts.title) else {
-        return Ok(None);
+        return Ok(ReadText::Unread);
     };
-    let mut lines = Vec::new(alloc);
-    let mut shown = Vec::new(alloc);
-    let mut ranges = Vec::new(alloc);
+    let mut classes = Vec::new(alloc);
     let mut rest = parts.classes;
-    for number in 0..u32::MAX {
+    for _ in 0..text.len() {
         let Some((class, behind)) = next_class(rest) else {
             break;
         };
-        let Some(shows) = take_ranges(class.beneath, number, &mut ranges)? else {
-            return Ok(None);
-        };
-        lines.push(class.line)?;
-        shown.push(shows)?;
+        if class.beneath.starts_with(RANGES) {
+            return Ok(ReadText::Earlier);
+        }
+        classes.push(ReadClass {
+            line: class.line,
+            shown: class.beneath,
+        })?;
         rest = behind;
     }
-    ranges.sort_unstable_by_key(|range: &ClassRange| range.first);
-    match stretches_of(alloc, &ranges, orders)? {
-        Some(stretches) => Ok(Some(ReadClasses {
-            stretches,
-            lines,
-            shown,
-        })),
-        None => Ok(None),
+    if classes.is_empty() {
+        return Ok(ReadText::Unread);
     }
-}
-
-/// The stretches of ranges that stand one behind the other, from rank 0 on up to the number of orders. `None` where they do not.
-fn stretches_of(
-    alloc: Global,
-    ranges: &[ClassRange],
-    orders: u64,
-) -> Result<Option<Stretches>, AllocError> {
-    let mut stretches = Stretches::new(alloc);
-    for range in ranges {
-        let end = stretches.end();
-        let classes = stretches.classes();
-        let is_next = range.first == end && end < range.end;
-        if !is_next || range.class > classes || classes == u32::MAX {
-            return Ok(None);
-        }
-        stretches.push(range.end, Some(range.class))?;
-    }
-    if stretches.end() != orders {
-        return Ok(None);
-    }
-    Ok(Some(stretches))
+    Ok(ReadText::Classes(ReadClasses { orders, classes }))
 }

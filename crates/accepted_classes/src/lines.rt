@@ -14,44 +14,6 @@ const FAULT: &str = "  error: ";
 /// What an event begins with that tells of a row, whose texts stand in quotes, each quote in them twice.
 const ROW: &str = "  row ";
 
-/// The place of a line that differs: the last line before it that is no event, which names a session or a table, and both lines. A text that has
-/// ended has an empty line there.
-#[derive(Clone, Copy)]
-pub(crate) struct LinePlace<'t> {
-    pub(crate) below: &'t str,
-    pub(crate) was: &'t str,
-    pub(crate) is: &'t str,
-}
-
-/// The first line in which two texts differ.
-pub(crate) fn first_line<'t>(was: &'t str, is: &'t str) -> LinePlace<'t> {
-    let mut below = "";
-    let mut old = was;
-    let mut new = is;
-    for _ in 0..was.len() {
-        let (old_line, old_rest) = cut_line(old);
-        let (new_line, new_rest) = cut_line(new);
-        if old_line != new_line {
-            return LinePlace {
-                below,
-                was: old_line,
-                is: new_line,
-            };
-        }
-        if !old_line.starts_with(EVENT) {
-            below = old_line;
-        }
-        old = old_rest;
-        new = new_rest;
-    }
-    let (new_line, _) = cut_line(new);
-    LinePlace {
-        below,
-        was: "",
-        is: new_line,
-    }
-}
-
 /// The first line of a text, and what stands behind it. A line feed in a text of a row ends no line.
 pub(crate) fn cut_line(text: &str) -> (&str, &str) {
     if text.starts_with(ROW) {

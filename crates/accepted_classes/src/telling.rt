@@ -1,6 +1,6 @@
 //! How classes differ, in lines.
 
-use crate::changes::{ChangedEnds, ChangedOrders, Changes};
+use crate::changes::{ChangedClasses, ChangedEnds, ChangedLine, Changes};
 use crate::lines::{SessionFault, cut_line};
 use itoa::Buffer;
 use std::alloc::{AllocError, Global};
@@ -8,27 +8,22 @@ use std::alloc::{AllocError, Global};
 /// How many classes, or things that are left, are told one by one.
 const MOST_TOLD: usize = 5;
 
-/// What the first order that differs is told with: its rank stands before it.
-const FIRST: &str = "  first at rank ";
-
 /// What stands between two things that are left.
 const OR: &str = "  or\n";
 
 /// What stands before the lines of a text.
 const INDENT: &str = "    ";
 
-/// The lines that tell how two texts differ. The first one goes behind a path, a colon and a blank. The order is the one of the first rank that
-/// differs, by the names of its steps, with the line feed behind it; it is nothing where no rank is told.
-pub fn changes_text(
-    alloc: Global,
-    changes: &Changes<'_>,
-    order: &str,
-) -> Result<String, AllocError> {
+/// The lines that tell how two texts differ. The first one goes behind a path, a colon and a blank.
+pub fn changes_text(alloc: Global, changes: &Changes<'_>) -> Result<String, AllocError> {
     let mut text = String::new(alloc);
     match changes {
         Changes::Unread => text.push_str("differs, and what is accepted is no text of classes\n")?,
+        Changes::Earlier => text.push_str(
+            "differs, and what is accepted is a text of an earlier version\n",
+        )?,
         Changes::None => text.push_str("differs, and no order does\n")?,
-        Changes::Orders(orders) => push_orders(alloc, orders, order, &mut text)?,
+        Changes::Classes(classes) => push_classes(alloc, classes, &mut text)?,
         Changes::Others(ends) => push_ends(alloc, ends, &mut text)?,
     }
     Ok(text)
@@ -42,28 +37,48 @@ fn orders_word(orders: u64) -> &'static str {
     if orders == 1 { " order" } else { " orders" }
 }
 
-fn push_orders(
+fn push_classes(
     alloc: Global,
-    orders: &ChangedOrders<'_>,
-    order: &str,
+    classes: &ChangedClasses<'_>,
     text: &mut String,
 ) -> Result<(), AllocError> {
-    text.push_str("differs in ")?;
-    push_number(orders.ranks, text)?;
-    text.push_str(" of ")?;
-    push_number(orders.orders, text)?;
-    text.push_str(orders_word(orders.orders))?;
+    text.push_str("differs: classes gone ")?;
+    push_number(classes.gone.len() as u64, text)?;
+    text.push_str(", new ")?;
+    push_number(classes.come.len() as u64, text)?;
+    text.push_str(", changed ")?;
+    push_number(classes.changed.len() as u64, text)?;
     text.push_str("\n")?;
-    let first = orders.first;
-    text.push_str(FIRST)?;
-    push_number(first.rank, text)?;
-    text.push_str(": ")?;
-    text.push_str(order)?;
-    push_line("  ", first.below, text)?;
-    push_told("    was: ", first.was, text)?;
-    push_told("    is: ", first.is, text)?;
-    push_some(alloc, "  gone\n", &orders.gone, "", text)?;
-    push_some(alloc, "  new\n", &orders.come, "", text)
+    push_some(alloc, "  gone\n", &classes.gone, "", text)?;
+    push_some(alloc, "  new\n", &classes.come, "", text)?;
+    push_changed(alloc, &classes.changed, text)
+}
+
+/// The first of some classes as they were and as they are, and how many there are besides. Nothing where there are none.
+fn push_changed(
+    alloc: Global,
+    changed: &[ChangedLine<'_>],
+    text: &mut String,
+) -> Result<(), AllocError> {
+    if changed.is_empty() {
+        return Ok(());
+    }
+    text.push_str("  changed\n")?;
+    for place in 0..changed.len().min(MOST_TOLD) {
+        push_told("    was: ", changed[place].was, text)?;
+        push_told("    is: ", changed[place].is, text)?;
+    }
+    push_others(alloc, changed.len(), text)
+}
+
+/// How many there are besides those that are told one by one, if any are.
+fn push_others(alloc: Global, count: usize, text: &mut String) -> Result<(), AllocError> {
+    let others = count.saturating_sub(MOST_TOLD);
+    if others > 0 {
+        let count = format!(in alloc; "    and {others} more\n")?;
+        text.push_str(&count)?;
+    }
+    Ok(())
 }
 
 /// A line behind something, if it is one.
@@ -76,15 +91,13 @@ fn push_line(before: &str, line: &str, text: &mut String) -> Result<(), AllocErr
     text.push_str("\n")
 }
 
-/// What is told in a line, without the blanks before it.
-fn push_told(before: &str, line: &str, text: &mut String) -> Result<(), AllocError> {
+/// A text behind something, without the blanks before its first line; its other lines are behind four blanks.
+fn push_told(before: &str, lines: &str, text: &mut String) -> Result<(), AllocError> {
+    let (line, behind) = cut_line(lines);
     text.push_str(before)?;
-    if line.is_empty() {
-        text.push_str("nothing more")?;
-    } else {
-        text.push_str(line.trim_start())?;
-    }
-    text.push_str("\n")
+    text.push_str(line.trim_start())?;
+    text.push_str("\n")?;
+    push_lines(behind, text)
 }
 
 /// The first of some texts behind a head, with something between each two, and how many there are besides. Nothing where there are none.
@@ -105,12 +118,7 @@ fn push_some(
         }
         push_lines(texts[place], text)?;
     }
-    let others = texts.len().saturating_sub(MOST_TOLD);
-    if others > 0 {
-        let count = format!(in alloc; "    and {others} more\n")?;
-        text.push_str(&count)?;
-    }
-    Ok(())
+    push_others(alloc, texts.len(), text)
 }
 
 /// All lines of a text, each behind four blanks.

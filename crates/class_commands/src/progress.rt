@@ -87,6 +87,7 @@ impl<C: Clock, E: Write> Watch for StatesProgress<'_, C, E> {
 fn line(alloc: Global, states: u64, steps: u64, elapsed: Duration) -> Result<String, AllocError> {
     format!(in alloc;
         "isofarm: {states} states, {steps} steps, {}.{} seconds\n",
-        elapsed.as_secs(), elapsed.subsec_nanos() / 100_000_000
+        elapsed.as_secs(),
+        elapsed.subsec_nanos() / 100_000_000
     )
 }

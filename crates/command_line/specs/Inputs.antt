@@ -30,4 +30,4 @@ repeats_input (Holds path spec first end) = is_input path.now && is_input spec.n
 repeats_input (Report path) = false
 repeats_input (Audit path) = false
 repeats_input (Judge path accepted show) = repeats (is_input path.now) (map (λ p. p.now) accepted.items)
-repeats_input (Test paths updates junit) = repeats false (map (λ p. p.now) paths)
+repeats_input (Test paths updates junit workers) = repeats false (map (λ p. p.now) paths)

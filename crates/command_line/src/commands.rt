@@ -122,7 +122,7 @@ static COMMANDS: [Row; 15] = [
     Row {
         spelled: "test",
         about: "Prints whether the classes of specs are as accepted, or how they differ",
-        words: &[SPECS, UPDATE, JUNIT],
+        words: &[SPECS, UPDATE, JUNIT, WORKERS],
     },
 ];
 

@@ -352,10 +352,12 @@ fn test_of_words<'a>(
 
 fn test_with<'a>(words: &ArgMatches<'a>, paths: Vec<&'a str>) -> Option<Asked<'a>> {
     let paths = Paths::of(paths)?;
+    let workers = Workers::of(words.get_one::<u8>("workers")?)?;
     Some(Asked::Test {
         paths,
         updates: words.get_flag("update"),
         junit: words.get_str("junit"),
+        workers,
     })
 }
 

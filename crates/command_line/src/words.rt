@@ -117,6 +117,7 @@ pub enum Asked<'a> {
         paths: Paths<'a>,
         updates: bool,
         junit: Option<&'a str>,
+        workers: Workers,
     },
 }
 

@@ -70,10 +70,9 @@ IsShowCall bytes name rank old new end answered =
 
 -- ---- all orders in classes
 
--- all orders as JSON, by all that they show or by what they answer, and with the ranks of each class where they are wanted
-pub record IsWanted (answers with_ranks : Bool) (wanted : WantedClasses) : Type 0 where
+-- all orders as JSON, by all that they show or by what they answer
+pub record IsWanted (answers : Bool) (wanted : WantedClasses) : Type 0 where
   pub answers_are : wanted.answers ≡ answers
-  pub ranks_are : wanted.ranks ≡ with_ranks
   pub all : wanted.filters.items ≡ []
   pub no_looks : wanted.looks.items ≡ []
   pub no_expectations : wanted.expectations.items ≡ []
@@ -87,13 +86,14 @@ abbrev pub AreNotTold : List ℕ → ClassesFault → Type 0
 AreNotTold bytes (classes_fault.Spec fault) = IsNoSpec bytes fault
 AreNotTold bytes (classes_fault.Run error) = (file : SpecFile) × IsFileOf bytes file × IsNotRunBy error (start file.run)
 AreNotTold bytes (classes_fault.Asked fault) = Unit {0}
+AreNotTold bytes (classes_fault.TooMany noted) = Unit {0}
 AreNotTold bytes classes_fault.NoMemory = Unit {0}
 AreNotTold bytes (classes_fault.Write fault) = Unit {0}
 
 -- it is put in the buffer, or the call ends so; a name that is no UTF-8 is refused first
-abbrev pub IsClassesCall : List ℕ → List ℕ → Bool → Bool → List ℕ → List ℕ → End → ℕ → Type 0
-IsClassesCall bytes name answers with_ranks old new end answered =
-    (((wanted : WantedClasses) × IsWanted answers with_ranks wanted
+abbrev pub IsClassesCall : List ℕ → List ℕ → Bool → List ℕ → List ℕ → End → ℕ → Type 0
+IsClassesCall bytes name answers old new end answered =
+    (((wanted : WantedClasses) × IsWanted answers wanted
     × ((text : List ℕ) × IsTellingOf bytes name wanted text × IsPut text (end_of ANSWERED) old new end answered))
     ⊎ ((fault : ClassesFault) × AreNotTold bytes fault × HasNoText (classes_end fault) old new end answered))
     ⊎ ((¬ (IsUtf8 name)) × HasNoText (end_of NO_NAME) old new end answered)

@@ -18,7 +18,7 @@ use Rattle.spec_commands.specs.declared.showing.ShowFault.TheVariants as show_fa
 use Rattle.class_commands.specs.declared.classing.ClassesFault.{ClassesFault}
 use Rattle.class_commands.specs.declared.classing.ClassesFault.TheVariants as classes_fault
 use Rattle.page_core.specs.declared.ending.End.{End}
-use Rattle.page_core.specs.declared.ending.TheConstants.{NO_SPEC, NO_SQL, UNBOUND, NO_RANK, NO_START, NO_MEMORY}
+use Rattle.page_core.specs.declared.ending.TheConstants.{NO_SPEC, NO_SQL, UNBOUND, NO_RANK, NO_START, NO_MEMORY, TOO_MANY}
 
 -- an end with no kind and no place
 abbrev pub end_of : ℕ → End
@@ -66,5 +66,6 @@ abbrev pub classes_end : ClassesFault → End
 classes_end (classes_fault.Spec fault) = spec_end fault
 classes_end (classes_fault.Asked fault) = end_of NO_MEMORY
 classes_end (classes_fault.Run error) = run_end error
+classes_end (classes_fault.TooMany noted) = record { fault = TOO_MANY; kind = 0; place = noted }
 classes_end classes_fault.NoMemory = end_of NO_MEMORY
 classes_end (classes_fault.Write fault) = end_of NO_MEMORY

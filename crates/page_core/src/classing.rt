@@ -7,29 +7,29 @@ ghost use Rattle.page_core.specs.Calls.{AreNotTold, IsClassesCall, IsWanted};
 use crate::ending::{ANSWERED, End, NO_NAME, classes_end, end_of};
 use crate::names::name_of;
 use crate::putting::{put, refuse};
-use class_commands::{ClassesFault, classes_alone};
+use class_commands::{ClassesFault, classes};
+use schedule_counts::Unwatched;
 use std::alloc::Global;
 use transcripts::Counted;
 use wanted_classes::{WantedClasses, WantedForm};
 
-/// The JSON of the classes of all orders, of the spec under a name, by all that they show or by what they answer, and with the ranks of each class
-/// where they are wanted: the bytes that `isofarm classes SPEC --json` prints, with `--answers` and `--ranks`.
+/// The JSON of the classes of all orders, of the spec under a name, by all that they show or by what they answer: the bytes that
+/// `isofarm classes SPEC --json` prints, with `--answers`.
 #[unsafe(no_mangle)]
 pub extern "C" fn page_classes(
     alloc: Global,
     spec: &[u8],
     name: &[u8],
     answers: bool,
-    ranks: bool,
     text: &mut [u8],
     end: &mut End,
 ) -> usize
-    ensures { IsClassesCall spec.now name.now answers ranks text.old text.new end.new result }
+    ensures { IsClassesCall spec.now name.now answers text.old text.new end.new result }
 {
     let Some(name) = name_of(name) else {
         return refuse(end_of(NO_NAME), end);
     };
-    let wanted = wanted(alloc, answers, ranks);
+    let wanted = wanted(alloc, answers);
     match classed(alloc, spec, name, &wanted) {
         Ok(answer) => put(answer.as_slice(), end_of(ANSWERED), text, end),
         Err(fault) => refuse(classes_end(fault), end),
@@ -37,8 +37,8 @@ pub extern "C" fn page_classes(
 }
 
 /// All orders as JSON.
-fn wanted(alloc: Global, answers: bool, ranks: bool) -> WantedClasses<'static>
-    ensures { IsWanted answers ranks result }
+fn wanted(alloc: Global, answers: bool) -> WantedClasses<'static>
+    ensures { IsWanted answers result }
 {
     WantedClasses {
         answers,
@@ -46,7 +46,6 @@ fn wanted(alloc: Global, answers: bool, ranks: bool) -> WantedClasses<'static>
         looks: Vec::new(alloc),
         expectations: Vec::new(alloc),
         brief: false,
-        ranks,
         outcomes: false,
         left: false,
         form: WantedForm::Json,
@@ -63,7 +62,7 @@ fn classed<'a>(
     ensures refused { IfErr result (AreNotTold spec.now) }
 {
     let mut out = Counted::new(Vec::new(alloc));
-    match classes_alone(alloc, spec, name, wanted, &mut out) {
+    match classes(alloc, spec, name, wanted, &Unwatched, &mut out) {
         Ok(_finding) => Ok(out.into_inner()),
         Err(fault) => Err(fault),
     }

@@ -27,6 +27,8 @@ pub const NO_MEMORY: u64 = 6;
 pub const NO_ROOM: u64 = 7;
 /// The name of the spec is no UTF-8.
 pub const NO_NAME: u64 = 8;
+/// The orders of the spec lead to more different states than there is room for. The place is how many were noted.
+pub const TOO_MANY: u64 = 9;
 
 /// How a call ended.
 #[derive(Clone, Copy)]
@@ -143,6 +145,11 @@ pub(crate) fn classes_end(fault: ClassesFault<'_>) -> End
     match fault {
         ClassesFault::Spec(fault) => spec_end(fault),
         ClassesFault::Run(error) => run_end(error),
+        ClassesFault::TooMany(noted) => End {
+            fault: TOO_MANY,
+            kind: 0,
+            place: noted,
+        },
         ClassesFault::Asked(_) | ClassesFault::NoMemory | ClassesFault::Write(_) => {
             end_of(NO_MEMORY)
         }

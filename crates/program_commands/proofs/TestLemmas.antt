@@ -141,6 +141,7 @@ never-unread known bytes name (classes.Asked other) h at e = absurd h
 never-unread known bytes name (classes.Run (run_error.Start (start_error.NoMemory))) h at e = (let k = e in cc)
 never-unread known bytes name (classes.Run (run_error.Start other)) h at e = (let k = e in cc)
 never-unread known bytes name (classes.Run other) h at e = (let k = e in cc)
+never-unread known bytes name (classes.TooMany noted) h at e = (let k = e in cc)
 never-unread known bytes name classes.NoMemory h at e = absurd h
 never-unread known bytes name (classes.Write error) h at e = absurd h
 

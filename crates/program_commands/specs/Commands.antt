@@ -117,7 +117,7 @@ IsDone files contents old new (Show path order json) result =
     ⊎ ((wanted : WantedOrder) × IsSame order wanted
     × IsCalled (files path.now) (λ bytes. IsShowRun contents old new bytes path.now wanted (form_by json))
     (λ bytes error told. show_told path (names_in order) error ≡ Some told) result)
-IsDone files contents old new (Classes path wanted workers progress) result =
+IsDone files contents old new (Classes path wanted progress) result =
     IsUnread (files path.now) path.now old new result
     ⊎ IsFoundBy (files path.now) (λ bytes. IsClassesRun contents old new bytes path.now wanted) (λ error told. told ≡ classing_told path error)
     result
@@ -165,7 +165,7 @@ tells_progress (Count path) = false
 tells_progress (Rank path names) = false
 tells_progress (Order path rank) = false
 tells_progress (Show path order json) = false
-tells_progress (Classes path wanted workers progress) = progress
+tells_progress (Classes path wanted progress) = progress
 tells_progress (Outcomes paths wanted) = false
 tells_progress (Run path ranks every workers progress) = progress
 tells_progress (Join paths) = false

@@ -64,7 +64,7 @@ use Rattle.spec_findings.specs.Told.{AreTold}
 use Rattle.fault_texts.specs.declared.fault.ProgramFault.{ProgramFault}
 use Rattle.fault_texts.specs.declared.fault.ProgramFault.TheVariants.{Spec, Sql, Bind, Start, RankOutOfRange, Shard, Book, BookTooLarge, OtherSpec}
 use Rattle.fault_texts.specs.declared.fault.ProgramFault.TheVariants.{TooManyRanks, Explained, Missing, Clash, NoMemory, Read, Write}
-use Rattle.fault_texts.specs.declared.fault.ProgramFault.TheVariants.{NoStep, Twice, OutOfTurn, LeftOut, NoLine, NoSession, NoSerialOrders, LookSql, LookBind, NotOneSelect, NoValue}
+use Rattle.fault_texts.specs.declared.fault.ProgramFault.TheVariants.{NoStep, Twice, OutOfTurn, LeftOut, NoLine, NoSession, NoSerialOrders, TooManyStates, LookSql, LookBind, NotOneSelect, NoValue}
 
 -- a path as the words have it
 abbrev pub Path : Type 0
@@ -155,6 +155,7 @@ abbrev pub classing_told : Path → ClassesFault → ProgramFault
 classing_told path (classes_fault.Spec fault) = spec_told path fault
 classing_told path (classes_fault.Asked fault) = asked_told path fault
 classing_told path (classes_fault.Run error) = run_told path error
+classing_told path (classes_fault.TooMany noted) = TooManyStates path noted
 classing_told path classes_fault.NoMemory = NoMemory
 classing_told path (classes_fault.Write fault) = Write
 

@@ -130,11 +130,8 @@ where
         Asked::Classes {
             path,
             wanted,
-            workers,
             progress,
-        } => classes_of_file(
-            rt, alloc, path, wanted, workers, *progress, opener, out, err,
-        ),
+        } => classes_of_file(rt, alloc, path, wanted, *progress, opener, out, err),
         Asked::Outcomes { paths, wanted } => {
             outcomes_of_files(alloc, paths.as_slice(), wanted, opener, out)
         }
@@ -333,12 +330,11 @@ fn form_of(json: bool) -> ShowForm
     if json { ShowForm::Json } else { ShowForm::Text }
 }
 
-fn classes_of_file<'a, R: Threads + Wait + Clock + Sync, O: Opener, W: Write, E: Write + Send>(
-    rt: &R,
+fn classes_of_file<'a, C: Clock, O: Opener, W: Write, E: Write>(
+    clock: &C,
     alloc: Global,
     path: &'a str,
     wanted: &WantedClasses<'a>,
-    workers: &Workers,
     is_told: bool,
     opener: &O,
     out: &mut Counted<W>,
@@ -354,12 +350,11 @@ fn classes_of_file<'a, R: Threads + Wait + Clock + Sync, O: Opener, W: Write, E:
         Err(fault) => return Err(fault),
     };
     match classes_told(
-        rt,
+        clock,
         alloc,
         bytes.as_slice(),
         path,
         wanted,
-        workers,
         is_told,
         out,
         err,

@@ -186,6 +186,7 @@ pub(crate) fn classes_fault<'a>(path: &'a str, fault: ClassesFault<'a>) -> Progr
         ClassesFault::Spec(fault) => spec_fault(path, fault),
         ClassesFault::Asked(fault) => asked_fault(path, fault),
         ClassesFault::Run(error) => run_fault(path, error),
+        ClassesFault::TooMany(noted) => ProgramFault::TooManyStates { path, noted },
         ClassesFault::NoMemory => ProgramFault::NoMemory,
         ClassesFault::Write(_) => ProgramFault::Write,
     }

@@ -11,12 +11,8 @@ use crate::files::read_spec_file;
 use accepted_classes::{Changes, accepted_path, changes_text, compare_texts, file_name};
 use book_commands::Finding;
 use fault_texts::ProgramFault;
-use shard_board::Workers;
-use spec_commands::order;
 use std::alloc::{AllocError, Global};
-use std::thread::Threads;
 use test_commands::{Folder, TestFault, Tested, Verdict, test_spec};
-use transcripts::Counted;
 
 /// What a fault's line begins with, which is not told of one spec among several.
 const PROGRAM: &str = "isofarm: ";
@@ -52,15 +48,8 @@ impl Told {
     }
 }
 
-/// What is found of the spec at a path, whose orders so many workers run.
-pub(crate) fn test_of_file<R: Threads + Sync, F: Folder>(
-    rt: &R,
-    alloc: Global,
-    path: &str,
-    updates: bool,
-    workers: &Workers,
-    folder: &F,
-) -> Found
+/// What is found of the spec at a path.
+pub(crate) fn test_of_file<F: Folder>(alloc: Global, path: &str, updates: bool, folder: &F) -> Found
     ensures { IsFoundOf (F.bytes folder.now) updates path.now result.finding }
 {
     let bytes = match read_spec_file(alloc, folder, path) {
@@ -72,7 +61,7 @@ pub(crate) fn test_of_file<R: Threads + Sync, F: Folder>(
     };
     let accepted = accepted.as_str();
     let bytes = bytes.as_slice();
-    match test_spec(rt, alloc, folder, bytes, file_name(path), accepted, workers) {
+    match test_spec(alloc, folder, bytes, file_name(path), accepted) {
         Ok(tested) if updates => updated(alloc, accepted, &tested, folder),
         Ok(tested) => compared(alloc, bytes, &tested),
         Err(fault) => refused(alloc, path, &fault_of(path, accepted, fault)),
@@ -110,56 +99,29 @@ fn compared(alloc: Global, bytes: &[u8], tested: &Tested) -> Found
     match &tested.verdict {
         Verdict::Same => found_as(Finding::Good, Told::AsAccepted),
         Verdict::Missing => found_as(Finding::Bad, Told::NoneAccepted),
-        Verdict::Other(other) => changed(alloc, bytes, other, &tested.text),
+        Verdict::Other(other) => changed(alloc, other, &tested.text),
     }
 }
 
 /// How the text of the classes differs from the accepted one.
-fn changed(alloc: Global, bytes: &[u8], accepted: &[u8], text: &[u8]) -> Found
+fn changed(alloc: Global, accepted: &[u8], text: &[u8]) -> Found
     ensures { (result.finding ≡ Bad) ⊎ (result.finding ≡ NoMemory) }
 {
-    match changes_of(alloc, bytes, accepted, text) {
+    match changes_of(alloc, accepted, text) {
         Ok(lines) => found_as(Finding::Bad, Told::Lines(lines)),
         Err(_) => no_memory(),
     }
 }
 
 /// How the text of the classes differs from the accepted one, in lines.
-fn changes_of(
-    alloc: Global,
-    bytes: &[u8],
-    accepted: &[u8],
-    text: &[u8],
-) -> Result<String, AllocError> {
+fn changes_of(alloc: Global, accepted: &[u8], text: &[u8]) -> Result<String, AllocError> {
     let Ok(was) = str::from_utf8(accepted) else {
-        return changes_text(alloc, &Changes::Unread, "");
+        return changes_text(alloc, &Changes::Unread);
     };
     let Ok(is) = str::from_utf8(text) else {
-        return changes_text(alloc, &Changes::Unread, "");
+        return changes_text(alloc, &Changes::Unread);
     };
-    let changes = compare_texts(alloc, was, is)?;
-    let order = order_of(alloc, bytes, &changes)?;
-    changes_text(alloc, &changes, order.as_str())
-}
-
-/// The names of the steps of the first order that differs, if one does, in their order, and a line feed.
-fn order_of(alloc: Global, bytes: &[u8], changes: &Changes<'_>) -> Result<String, AllocError> {
-    let Changes::Orders(orders) = changes else {
-        return Ok(String::new(alloc));
-    };
-    let mut out = Counted::new(Vec::new(alloc));
-    match order(alloc, bytes, orders.first.rank, &mut out) {
-        Ok(()) => text_of(alloc, out.into_inner().as_slice()),
-        Err(_) => Err(AllocError),
-    }
-}
-
-fn text_of(alloc: Global, bytes: &[u8]) -> Result<String, AllocError> {
-    let mut text = String::new(alloc);
-    if let Ok(names) = str::from_utf8(bytes) {
-        text.push_str(names)?;
-    }
-    Ok(text)
+    changes_text(alloc, &compare_texts(alloc, was, is)?)
 }
 
 /// Accepts the classes as they are, and tells whether their text was written.

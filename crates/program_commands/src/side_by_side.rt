@@ -21,8 +21,7 @@ struct Placed {
     found: Found,
 }
 
-/// What is found of each of some specs, whose accepted texts are left as they are, in their order. As many are tested at a time as there are workers; where they are fewer, each has as many
-/// of the workers as are left for it.
+/// What is found of each of some specs, whose accepted texts are left as they are, in their order. As many are tested at a time as there are workers.
 pub(crate) fn test_side_by_side<R: Threads + Sync, F: Folder + Sync>(
     rt: &R,
     alloc: Global,
@@ -35,13 +34,8 @@ where
     ensures { IfOk result (λ found. AllZip (IsFoundOf (F.bytes folder.now) false) (map string_bytes specs.now) (findings_in found.items)) }
 {
     let crew = crew_for(specs.len(), workers);
-    let share = Workers::of(workers.number() / crew);
-    let each = match &share {
-        Some(share) => share,
-        None => workers,
-    };
-    let placed = test_with(rt, alloc, specs, each, folder, crew)?;
-    in_order(rt, alloc, specs, each, folder, placed)
+    let placed = test_with(rt, alloc, specs, folder, crew)?;
+    in_order(alloc, specs, folder, placed)
 }
 
 /// How many specs are tested at a time.
@@ -56,7 +50,6 @@ fn test_with<R: Threads + Sync, F: Folder + Sync>(
     rt: &R,
     alloc: Global,
     specs: &[String],
-    each: &Workers,
     folder: &F,
     crew: u8,
 ) -> Result<Vec<Placed>, AllocError>
@@ -65,7 +58,7 @@ where
     ensures { IfOk result (λ placed. All (IsPlaced (F.bytes folder.now) false (map string_bytes specs.now)) placed.items) }
 {
     let next = AtomicUsize::new(0);
-    let found = found_by_each(rt, alloc, specs, each, folder, &next, crew)?;
+    let found = found_by_each(rt, alloc, specs, folder, &next, crew)?;
     together(alloc, found)
 }
 
@@ -74,7 +67,6 @@ fn found_by_each<R: Threads + Sync, F: Folder + Sync>(
     rt: &R,
     alloc: Global,
     specs: &[String],
-    each: &Workers,
     folder: &F,
     next: &AtomicUsize,
     crew: u8,
@@ -90,7 +82,7 @@ where
         usize::from(crew),
         &|_worker: usize| -> Vec<Placed>
             ensures { All (IsPlaced (F.bytes folder.entry.now) false (map string_bytes specs.entry.now)) result.items }
-        { test_next(rt, alloc, specs, each, folder, next) },
+        { test_next(alloc, specs, folder, next) },
     )
 }
 
@@ -108,11 +100,9 @@ fn together(alloc: Global, found: Vec<Vec<Placed>>) -> Result<Vec<Placed>, Alloc
 }
 
 /// Tests the next spec that none has taken, until there is none. What there is no memory to keep is left out.
-fn test_next<R: Threads + Sync, F: Folder>(
-    rt: &R,
+fn test_next<F: Folder>(
     alloc: Global,
     specs: &[String],
-    each: &Workers,
     folder: &F,
     next: &AtomicUsize,
 ) -> Vec<Placed>
@@ -124,18 +114,16 @@ fn test_next<R: Threads + Sync, F: Folder>(
         if place >= specs.len() {
             return placed;
         }
-        let found = test_of_file(rt, alloc, specs[place].as_str(), false, each, folder);
+        let found = test_of_file(alloc, specs[place].as_str(), false, folder);
         let _kept = placed.push(Placed { place, found });
     }
     placed
 }
 
 /// What is found of each spec. One of which nothing was kept is tested here.
-fn in_order<R: Threads + Sync, F: Folder>(
-    rt: &R,
+fn in_order<F: Folder>(
     alloc: Global,
     specs: &[String],
-    each: &Workers,
     folder: &F,
     placed: Vec<Placed>,
 ) -> Result<Vec<Found>, AllocError>
@@ -148,7 +136,7 @@ fn in_order<R: Threads + Sync, F: Folder>(
     for place in 0..specs.len() {
         let found = match take_last(place, &mut kept) {
             Some(found) => found,
-            None => test_of_file(rt, alloc, specs[place].as_str(), false, each, folder),
+            None => test_of_file(alloc, specs[place].as_str(), false, folder),
         };
         all.push(found)?;
     }

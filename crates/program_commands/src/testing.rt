@@ -115,7 +115,7 @@ where
     ensures refused { IfErr result (λ fault. (files : Files) (paths : List (List ℕ)) (updates reports : Bool) → IsTestRun files paths updates reports (Err fault)) }
 {
     if updates {
-        return update_each(rt, alloc, specs, workers, folder, cases, out);
+        return update_each(alloc, specs, folder, cases, out);
     }
     test_each(rt, alloc, specs, workers, folder, cases, out)
 }
@@ -160,11 +160,9 @@ where
 
 /// Tests one spec after another and accepts its classes. It is told before the next is begun, so that whatever is written is told, and no two write
 /// one accepted text at a time.
-fn update_each<'a, R: Threads + Sync, F: Folder, W: Write>(
-    rt: &R,
+fn update_each<'a, F: Folder, W: Write>(
     alloc: Global,
     specs: &[String],
-    workers: &Workers,
     folder: &F,
     cases: &mut Vec<Case>,
     out: &mut Counted<W>,
@@ -181,7 +179,7 @@ fn update_each<'a, R: Threads + Sync, F: Folder, W: Write>(
     };
     for place in 0..specs.len() {
         let path = specs[place].as_str();
-        let found = test_of_file(rt, alloc, path, true, workers, folder);
+        let found = test_of_file(alloc, path, true, folder);
         ended = match tell_one(alloc, path, &found, ended, cases, out) {
             Ok(ended) => ended,
             Err(_) => return Err(ProgramFault::Write),

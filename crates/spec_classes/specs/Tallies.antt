@@ -13,11 +13,11 @@ use Rattle.spec_classes.specs.declared.tallies.Tally.{Tally}
 use Rattle.spec_classes.specs.declared.classes.OrderClass.{OrderClass}
 
 -- the tally of the states with this number: their counts together, and the least of their first ranks
-pub record IsTallyOf (number : ℕ) (states : List FinalState) (t : Tally) : Type 0 where
-  pub number : t.number ≡ number
-  pub count : t.count ≡ count_of number states
-  pub below : (f : FinalState) → Has f states → f.shows ≡ number → t.first ≤ f.first
-  pub met : 0 < t.count → (f : FinalState) × Has f states × (f.shows ≡ number) × (t.first ≡ f.first)
+pub record IsTallyOf (n : ℕ) (states : List FinalState) (t : Tally) : Type 0 where
+  pub number : t.number ≡ n
+  pub count : t.count ≡ count_of n states
+  pub below : (f : FinalState) → Has f states → f.shows ≡ n → t.first ≤ f.first
+  pub met : 0 < t.count → (f : FinalState) × Has f states × (f.shows ≡ n) × (t.first ≡ f.first)
 
 -- one of each number below
 pub record AreTallies (numbers : ℕ) (states : List FinalState) (ts : List Tally) : Type 0 where

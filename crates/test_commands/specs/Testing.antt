@@ -25,7 +25,6 @@ pub record WantsAll (wanted : WantedClasses) : Type 0 where
   pub looks : wanted.looks.items ≡ []
   pub expectations : wanted.expectations.items ≡ []
   pub whole : wanted.brief ≡ false
-  pub ranks : wanted.ranks ≡ true
   pub outcomes : wanted.outcomes ≡ true
   pub left : wanted.left ≡ true
   pub as_text : wanted.form ≡ Text
@@ -44,7 +43,7 @@ pub record IsTested (known : Option (List ℕ)) (bytes name : List ℕ) (tested 
   pub text : IsText bytes name tested.text.items
   pub verdict : IsVerdict known tested.text.items tested.verdict
 
--- why a spec is not tested: the bytes are no spec file, or its orders are not run; the accepted file is not read; or memory ran out. That all of a
+-- why a spec is not tested: the bytes are no spec file, its orders are not run, or there is no room for all states; the accepted file is not read; or memory ran out. That all of a
 -- file's classes is asked is refused of no file
 abbrev pub IsNotTested : Option (List ℕ) → List ℕ → List ℕ → TestFault → Type 0
 IsNotTested known bytes name (Classes (fault.Spec error)) = IsNoSpec bytes error
@@ -52,6 +51,7 @@ IsNotTested known bytes name (Classes (fault.Asked asked.NoMemory)) = Unit {0}
 IsNotTested known bytes name (Classes (fault.Asked error)) = ⊥
 IsNotTested known bytes name (Classes (fault.Run error)) =
     (wanted : WantedClasses) × WantsAll wanted × IsNotAsked bytes wanted (λ file tables. IsNotRun file tables wanted error)
+IsNotTested known bytes name (Classes (fault.TooMany noted)) = Unit {0}
 IsNotTested known bytes name (Classes fault.NoMemory) = ⊥
 IsNotTested known bytes name (Classes (fault.Write error)) = ⊥
 IsNotTested known bytes name Accepted = known ≡ None
@@ -62,6 +62,7 @@ abbrev pub told_as : ClassesFault → TestFault
 told_as (fault.Spec error) = Classes (fault.Spec error)
 told_as (fault.Asked error) = Classes (fault.Asked error)
 told_as (fault.Run error) = Classes (fault.Run error)
+told_as (fault.TooMany noted) = Classes (fault.TooMany noted)
 told_as fault.NoMemory = NoMemory
 told_as (fault.Write error) = NoMemory
 

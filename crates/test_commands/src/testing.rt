@@ -5,9 +5,8 @@ ghost use Rattle.test_commands.specs.Testing.{IsNotTested, IsTested, IsText, IsV
 
 use book_commands::{FileReader, Opener};
 use class_commands::{ClassesFault, classes};
-use shard_board::{OpenGate, Workers};
+use schedule_counts::Unwatched;
 use std::alloc::Global;
-use std::thread::Threads;
 use transcripts::{Counted, ReadError};
 use wanted_classes::{WantedClasses, WantedForm};
 
@@ -45,19 +44,17 @@ pub enum TestFault {
 }
 
 /// Tells the classes of the spec file that bytes are, with what each has, under a name, and compares their text with the accepted one.
-pub fn test_spec<R: Threads + Sync, O: Opener>(
-    rt: &R,
+pub fn test_spec<O: Opener>(
     alloc: Global,
     opener: &O,
     bytes: &[u8],
     name: &str,
     accepted: &str,
-    workers: &Workers,
 ) -> Result<Tested, TestFault>
     ensures tested { IfOk result (IsTested (O.bytes opener.now accepted.now) bytes.now name.now) }
     ensures refused { IfErr result (IsNotTested (O.bytes opener.now accepted.now) bytes.now name.now) }
 {
-    let text = match text_of(rt, alloc, bytes, name, workers) {
+    let text = match text_of(alloc, bytes, name) {
         Ok(text) => text,
         Err(fault) => return Err(fault),
     };
@@ -68,21 +65,13 @@ pub fn test_spec<R: Threads + Sync, O: Opener>(
 }
 
 /// The text of the classes of the spec file that bytes are.
-fn text_of<R: Threads + Sync>(
-    rt: &R,
-    alloc: Global,
-    bytes: &[u8],
-    name: &str,
-    workers: &Workers,
-) -> Result<Vec<u8>, TestFault>
+fn text_of(alloc: Global, bytes: &[u8], name: &str) -> Result<Vec<u8>, TestFault>
     ensures text { IfOk result (λ text. IsText bytes.now name.now text.items) }
     ensures refused { IfErr result (λ fault. (known : Option (List ℕ)) → IsNotTested known bytes.now name.now fault) }
 {
     let wanted = all_of_classes(alloc);
     let mut out = Counted::new(Vec::new(alloc));
-    match classes(
-        rt, alloc, bytes, name, &wanted, workers, &OpenGate, &mut out,
-    ) {
+    match classes(alloc, bytes, name, &wanted, &Unwatched, &mut out) {
         Ok(_) => Ok(out.into_inner()),
         Err(fault) => Err(told_as(fault)),
     }
@@ -96,11 +85,12 @@ fn told_as(fault: ClassesFault<'static>) -> TestFault
         ClassesFault::Spec(fault) => TestFault::Classes(ClassesFault::Spec(fault)),
         ClassesFault::Asked(fault) => TestFault::Classes(ClassesFault::Asked(fault)),
         ClassesFault::Run(error) => TestFault::Classes(ClassesFault::Run(error)),
+        ClassesFault::TooMany(noted) => TestFault::Classes(ClassesFault::TooMany(noted)),
         ClassesFault::NoMemory | ClassesFault::Write(_) => TestFault::NoMemory,
     }
 }
 
-/// The classes of all orders, with their ranks, what the least order of each tells, and what it leaves.
+/// The classes of all orders, with what the first order of each tells, and what it leaves.
 fn all_of_classes(alloc: Global) -> WantedClasses<'static>
     ensures { WantsAll result }
 {
@@ -110,7 +100,6 @@ fn all_of_classes(alloc: Global) -> WantedClasses<'static>
         looks: Vec::new(alloc),
         expectations: Vec::new(alloc),
         brief: false,
-        ranks: true,
         outcomes: true,
         left: true,
         form: WantedForm::Text,

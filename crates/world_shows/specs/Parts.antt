@@ -1,5 +1,5 @@
 -- Parts of what is read of a world. No public clause cites this module.
-use Rattle.std.specs.Prelude.{ℕ, pos, ◌×◌}
+use Rattle.std.specs.Prelude.{pos}
 use Rattle.lock_modes.specs.Rows.{Tuple}
 use Rattle.lock_modes.specs.declared.value.Value.{Value}
 use Rattle.lock_modes.specs.declared.value.Value.TheVariants.{Int}

@@ -16,26 +16,26 @@ returns-clause-text c =
     let filtered = c.has_some.ensures ∙ ap has_some c.as_slice-3.ensures.value in
     let looks =
     c.as_slice-5.ensures.value ∙ c.in_ok-looks.ensures ∙ (λ k. map (look_over (c.as_slice-rows.ensures.value k)) (c.as_slice.ensures.value k)) in
-      subst (λ (p : Page). IsWrittenAs c.args.wanted.now.form c.args.spec.now.text c.args.spec.now p (written_bytes c.in_ok-written.written))
-          (λ k. let p : Page = record {
-            path = c.args.path.now;
-            orders = c.ranks.ensures k;
-            sessions = c.session_names.ensures.are k;
-            steps = c.step_names.ensures.are k;
-            tables = c.args.tables.now;
-            by = (c.of.ensures ∙ ap kind_of c.grouping.ensures) k;
-            is_filtered = filtered k;
-            missing = None;
-            expectations = expectations k;
-            totals = c.args.found.now.totals;
-            rows = c.as_slice-rows.ensures.value k;
-            is_brief = c.args.wanted.now.brief;
-            with_ranks = false;
-            ranks = [];
-            with_outcomes = c.args.wanted.now.outcomes;
-            with_left = c.args.wanted.now.left;
-            looks = looks k;
-          } in p) c.in_ok-written.ensures
+    subst (λ (p : Page). IsWrittenAs c.args.wanted.now.form c.args.spec.now.text c.args.spec.now p (written_bytes c.in_ok-written.written))
+    (λ k. let p : Page = record {
+      path = c.args.path.now;
+      orders = c.ranks.ensures k;
+      sessions = c.session_names.ensures.are k;
+      steps = c.step_names.ensures.are k;
+      tables = c.args.tables.now;
+      by = (c.of.ensures ∙ ap kind_of c.grouping.ensures) k;
+      is_filtered = filtered k;
+      missing = None;
+      expectations = expectations k;
+      totals = c.args.found.now.totals;
+      rows = c.as_slice-rows.ensures.value k;
+      is_brief = c.args.wanted.now.brief;
+      with_ranks = false;
+      ranks = [];
+      with_outcomes = c.args.wanted.now.outcomes;
+      with_left = c.args.wanted.now.left;
+      looks = looks k;
+    } in p) c.in_ok-written.ensures
 
 pub returns-clause-finding : goal.returns-clause-finding
 returns-clause-finding c =

@@ -15,8 +15,8 @@ states_of-requires c =
     let is : AreFinals point_rules seen (start_point c.args.kind run p.0) c.in-Ok.finals.items = subst (λ (x : Point). AreFinals point_rules seen x c.in-Ok.finals.items) p.2 c.in-Ok.ensures.finals in
     subst (λ fs. AreOver seen fs) (sym c.as_slice.ensures.value) (finals-over c.args.kind run p.0 seen c.in-Ok.finals.items is)
 
-pub returns-in-Ok-clause-counted : goal.returns-in-Ok-clause-counted
-returns-in-Ok-clause-counted c =
+pub returns-in_ok-states-in-Ok-clause-counted : goal.returns-in_ok-states-in-Ok-clause-counted
+returns-in_ok-states-in-Ok-clause-counted c =
     let p = c.in_ok-search.ensures.point in
     let run = c.args.spec.now.run in
     let seen = c.finals.new.explored.seen in
