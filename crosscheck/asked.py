@@ -8,10 +8,12 @@ from looks import Expected, look_of
 from machine import DEADLOCK
 from orders import quoted
 
-ANSWERS, BRIEF, RANKS, OUTCOMES, LEFT, JSON, HTML = FLAGS = ["--answers", "--brief", "--ranks", "--outcomes", "--left", "--json", "--html"]
+ANSWERS, BRIEF, OUTCOMES, LEFT, JSON, HTML = FLAGS = ["--answers", "--brief", "--outcomes", "--left", "--json", "--html"]
+# What is asked of books alone.
+RANKS = "--ranks"
 # What does not go with a page.
 NOT_OF_PAGES = [BRIEF, JSON]
-WORKERS, PROGRESS, LOOK, EXPECT = "--workers", "--progress", "--look", "--expect"
+PROGRESS, LOOK, EXPECT = "--progress", "--look", "--expect"
 LOSES, LOSES_NOT = "--deadlock", "--no-deadlock"
 # A word that begins with a hyphen ends the values of an expectation, but where it is a number.
 FALLING = re.compile("-[0-9]+")
@@ -117,8 +119,6 @@ def asked_by(words):
         elif word == EXPECT and (values := [*takewhile(is_value_word, left[1:])]):
             asked.expected.append(Expected(left[0], values))
             del left[: 1 + len(values)]
-        elif word == WORKERS and left:
-            left.pop(0)
         elif word != PROGRESS:
             raise NoWords(word)
     return asked

@@ -210,6 +210,5 @@ class Asker(Maker):
             groups += [[asked.EXPECT, *self.expected()] for _ in range(self.one([0, 0, 1, 1, 2]))]
         if self.some(0.25):
             groups += self.faults(any("serial" in one[0] for one in groups))
-        groups += [[asked.WORKERS, str(self.random.randint(1, 16))]] * self.some(0.3)
         self.random.shuffle(groups)
         return [word for group in groups for word in group]

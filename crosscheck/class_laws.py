@@ -3,7 +3,7 @@
 import json
 from itertools import permutations
 
-from asked import ANSWERS, BRIEF, FILTERS, JSON, LEFT, LOOK, OUTCOMES, RANKS, asked_by
+from asked import ANSWERS, BRIEF, FILTERS, JSON, LEFT, LOOK, OUTCOMES, asked_by
 from asking import opposite
 from class_objects import ANSWERING, ReadObject
 from class_pages import OF_LOOK, OF_OUTCOME, Read
@@ -78,7 +78,7 @@ def wrong_answers(spec, answers, orders):
 
 
 def wrong_classes(classes, random):
-    """What is wrong with the classes of a spec, and with the ranks that they are told to have."""
+    """What is wrong with the classes of a spec, and with the ranks that they have."""
     spec = classes.spec
     number, groups, answers = spec.ranks(), classes.groups(asked_by([])), classes.groups(asked_by([ANSWERS]))
     is_told = spec.lines is None and len(spec.session_names) <= MOST_SESSIONS
@@ -122,7 +122,7 @@ def passes(spec, word, row):
 
 def compared(row):
     """What a row has in a page with filters as in one without, but for its number."""
-    return row.front[1:], row.order, row.ranges()
+    return row.front[1:], row.order
 
 
 def wrong_filters(asking, random):
@@ -130,7 +130,10 @@ def wrong_filters(asking, random):
     spec = asking.spec
 
     def read(words):
-        return Read(asking.page("made.spec", asked_by([RANKS, *words]))[0])
+        return Read(asking.page("made.spec", asked_by(words))[0])
+
+    def read_json(words):
+        return ReadObject(asking.page("made.spec", asked_by([JSON, *words]))[0])
 
     whole = read([OUTCOMES])
     outcomes = {row.least: row.outcome() for row in whole.rows}
@@ -147,22 +150,17 @@ def wrong_filters(asking, random):
             yield f"with {some} are other classes than those that pass"
         if any(row.outcome() != outcomes[row.least] for row in by_answers.rows):
             yield f"with {some} by answers is another outcome than that of the least rank"
-        yield from (f"{some} by answers: {wrong}" for wrong in wrong_joint(filtered, by_answers))
+        yield from (f"{some} by answers: {wrong}" for wrong in wrong_joint(read_json(some), read_json([*some, ANSWERS])))
 
 
 def wrong_joint(by_shows, by_answers):
-    """Each class lies whole in one by answers, and those have no other orders."""
-    whole = {row.least: [] for row in by_answers.rows}
+    """Those by answers have the orders of all classes that answer so, and the first of these."""
+    joint = {}
     for row in by_shows.rows:
-        joint = [one for one in by_answers.rows if any(first <= row.least <= last for first, last in one.ranges())]
-        if len(joint) != 1 or not all(any(first <= low and high <= last for first, last in joint[0].ranges()) for low, high in row.ranges()):
-            yield f"the class of rank {row.least} lies in no class by answers"
-        else:
-            whole[joint[0].least].append(row)
-    for row in by_answers.rows:
-        rows = whole[row.least]
-        if not rows or rows[0].least != row.least or sum(one.orders for one in rows) != row.orders or rows[0].order != row.order:
-            yield f"the class by answers of rank {row.least} is not that of its classes"
+        joint.setdefault(row.answer(), []).append(row)
+    want = [(answer, rows[0].least, rows[0].value["order"], sum(row.orders for row in rows)) for answer, rows in joint.items()]
+    if [(row.answer(), row.least, row.value["order"], row.orders) for row in by_answers.rows] != want:
+        yield "they are not those of its classes"
 
 
 # ---- looks and expectations
@@ -244,7 +242,7 @@ def wrong_beside_words(read, path, asked):
     expected = [(one["select"], one["values"]) for one in read.expected]
     if (read.value["name"], read.looks, expected) != (path, asked.looks, [(one.select, one.values) for one in asked.expected]):
         yield "JSON has not the words that were given"
-    if (read.by_answers, read.has_classes, read.has_ranks) != (asked.by_answers, not asked.is_brief, asked.has_ranks and bool(read.rows)):
+    if (read.by_answers, read.has_classes) != (asked.by_answers, not asked.is_brief):
         yield "JSON has something else than was asked for"
 
 
@@ -279,7 +277,7 @@ def wrong_objects(asking, path, words, random):
     read, asked = ReadObject(out.decode()), asked_by(words)
     yield from wrong_beside_words(read, path, asked)
     # Without tables a session that has not ended is told right beneath the outcome, as a line of it would be.
-    yield from wrong_beside_page(read, Read(asking.page(path, asked_by([*without(words, JSON, BRIEF, LEFT), RANKS, OUTCOMES]))[0]))
+    yield from wrong_beside_page(read, Read(asking.page(path, asked_by([*without(words, JSON, BRIEF, LEFT), OUTCOMES]))[0]))
     yield from wrong_expected_objects(asking, path, words, read)
     for row in random.sample(read.rows, min(len(read.rows), CLASSES_SHOWN)):
         yield from wrong_beside_order(read, row, json.loads(show_json(Order(asking.text, path, row.least))))

@@ -56,11 +56,14 @@ class ClassObject:
         if "open" in self.value:
             yield "S", any(standing == WAITS for _session, standing in self.value["open"])
 
+    def answer(self):
+        """What its first order answers, and leaves."""
+        return json.dumps([[[line for line in session if line.startswith(ANSWERING)] for session in self.told], self.value["left"]])
+
     def shown(self):
         """What its orders have alike, and those of no other class."""
         is_whole = "open" in self.value or "left" not in self.value
-        told = self.told if is_whole else [[line for line in session if line.startswith(ANSWERING)] for session in self.told]
-        return json.dumps([told, self.value.get("left"), self.value.get("open")])
+        return json.dumps([self.told, self.value.get("left"), self.value.get("open")]) if is_whole else self.answer()
 
 
 class ReadObject:
@@ -94,7 +97,7 @@ class ReadObject:
 
     def wrong_members(self):
         """Members stand in their order, and all classes have the same ones."""
-        of_class = OF_CLASS + ["left"] * (not self.of_books) + ["open"] * (self.by == BY_SHOWS) + ["seen"] + ["ranks"] * self.has_ranks
+        of_class = OF_CLASS + ["left"] * (not self.of_books) + ["open"] * (self.by == BY_SHOWS) + ["seen"] + ["ranks"] * (self.has_ranks and self.of_books)
         tables = [table for row in self.rows for table in row.value.get("left", [])]
         several = [([self.value], self.members() + ["classes"] * self.has_classes), ([self.totals], [*OF_SHOWS])]
         several += [(self.steps, OF_STEP), (self.expected, OF_EXPECTED), ([row.value for row in self.rows], of_class), (tables, OF_TABLE)]

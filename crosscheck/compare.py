@@ -145,8 +145,9 @@ def shown_by(kind, text, seed):
     return shown
 
 
-# What a run tells on its way.
+# What a run tells on its way, and what classes do.
 PROGRESS = re.compile(rb"isofarm: (\d+) of (\d+) shards, (\d+) of (\d+) ranks, (\d+)\.(\d) seconds\n")
+STATES = re.compile(rb"isofarm: (\d+) states, (\d+) steps, (\d+)\.(\d) seconds\n")
 
 
 def told(program, words, folder, settings):

@@ -25,6 +25,7 @@ from book_class_laws import MOST_RUN, read_back, wrong_beside_shows, wrong_fault
 from book_classes import FLAGS, BookAsking
 from book_file import read_book
 from books import book_text, compact, facts_of, leads_to, values
+from classes import joined, ranges_text
 from compare import Comparison, ended, fault_of, told
 from compare_classes import CLASS_KINDS, brief_json, brief_text, lined, specs_made
 from compare_files import file_text, shards_of, some_of, worlds_of
@@ -312,6 +313,10 @@ def run_alone(text, first, end, how):
         return b""
 
 
+# Ranges of ranks, as they are joined and told.
+RANGES = [([[0, 0]], "0"), ([[4, 5], [0, 1], [7, 7]], "0-1 4-5 7"), ([[3, 3], [2, 2], [0, 0], [4, 9]], "0 2-9")]
+
+
 def wrong_by_hand():
     for words, want in runs_by_hand():
         paths, flags = [word for word in words if word not in FLAGS], [word for word in words if word in FLAGS]
@@ -319,6 +324,7 @@ def wrong_by_hand():
         status, out, error = asking.answer(flags)
         if (status, out.replace(f"{WORKED}/".encode(), b""), error.replace(f"{WORKED}/".encode(), b"")) != want:
             yield f"{' '.join(words)}: {out.decode()}{error.decode()}"
+    yield from (f"{ranges} are told as {ranges_text(joined(ranges))}" for ranges, text in RANGES if ranges_text(joined(ranges)) != text)
 
 
 def wrong_alone(paths, is_true, random, counts):

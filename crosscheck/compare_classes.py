@@ -2,8 +2,8 @@
 
 usage: python3 crosscheck/compare_classes.py PROGRAM|--alone KIND FIRST_SEED SEEDS
 
-Each spec is run as a whole and by answers, brief and not, as text, as JSON and as a page that a browser opens, and with several numbers of workers, and then with some filters,
-looks and expectations (`asking.py`). Of a spec with more orders than this implementation runs, some are made permutation lines. Before them come
+Each spec is run as a whole and by answers, brief and not, as text, as JSON and as a page that a browser opens, and then with some filters, looks
+and expectations (`asking.py`). Of a spec with more orders than this implementation runs, some are made permutation lines. Before them come
 the specs of `classes/`, whose texts and JSON were worked out by hand. With `--alone` no program is run: classes, texts and JSON are held against
 what has to hold of each (`class_laws.py`, `class_pages.py`, `class_objects.py`). KIND is one of those below, or `all`: `crowd` has five to seven
 sessions with so few steps that all orders are run, `leaving` has sessions that leave other rows in each order, and the others are those of
@@ -23,7 +23,7 @@ from asked import ANSWERS, BRIEF, HTML, JSON, LEFT, OUTCOMES
 from asking import Asker
 from class_laws import wrong_classes, wrong_expectation, wrong_filters, wrong_looks, wrong_objects
 from class_objects import DOCTYPE, read_back
-from classes import Asking, joined, ranges_text, share, with_steps
+from classes import Asking, share, with_steps
 from compare import Comparison, ended, fault_of
 from compare_shown import ALL, ALL_KINDS, ALONE, FILES, bound, specs_of
 from generate import Maker
@@ -33,7 +33,7 @@ from refusal import Refusal
 WORKED = Path(__file__).resolve().parent / "classes"
 MOST_ORDERS, MOST_LINES, NEAR_RANKS = 20_000, 60, 40
 TOLD = [[], [ANSWERS], [BRIEF], [ANSWERS, BRIEF], [JSON], [JSON, ANSWERS], [JSON, BRIEF], [HTML]]
-RUNS = [*TOLD, ["--workers", "1"], ["--workers", "3"], [ANSWERS, "--workers", "3"], ["--workers", "3", JSON], [HTML, ANSWERS, "--workers", "3"]]
+RUNS = [*TOLD, [HTML, ANSWERS]]
 # So many runs of a spec ask for something by filters, looks and expectations.
 RUNS_ASKED = 10
 EXPECTATIONS_LOOKED_AT = 3
@@ -134,20 +134,20 @@ LONG_LOOK = "SELECT id, v, id, v, id, v FROM t WHERE id = 1 AND v > 0 AND v < 10
 LONG_TABLE, LONG_TEXT = "u" * 73, f"'{'x' * 100}'"
 # Of texts of other words than none and `--answers`: these words, and the status. JSON has `--json` besides.
 ASKED = {
-    "alone.expected": (f"--expect 'SELECT v, id FROM t' 1 10 --ranks --look '{LONG_LOOK}'", 1),
+    "alone.expected": (f"--expect 'SELECT v, id FROM t' 1 10 --look '{LONG_LOOK}'", 1),
     "alone.outcomes": ("--outcomes", 0),
-    "bare.left": ("--left --outcomes --ranks", 0),
-    "bare.joint": ("--ranks --left --answers", 0),
+    "bare.left": ("--left --outcomes", 0),
+    "bare.joint": ("--left --answers", 0),
     "blind.none": ("--deadlock --expect 'SELECT v FROM t' 1", 0),
     "counter.brief": ("--answers --brief --no-serial --expect 'SELECT n FROM counter' 2", 1),
     "counter.expected": ("--expect 'SELECT n FROM counter' 2", 1),
-    "counter.lost": ("--no-serial --ranks", 0),
+    "counter.lost": ("--no-serial", 0),
     "counter.serial": ("--serial --expect 'SELECT n FROM counter' 2", 0),
-    "lines.ranks": ("--answers --ranks --outcomes --left", 0),
-    "lines.stuck": ("--stuck --answers --ranks --left", 0),
+    "lines.all": ("--answers --outcomes --left", 0),
+    "lines.stuck": ("--stuck --answers --left", 0),
     "log.expected": ("""--brief --expect 'SELECT w FROM log' "'a'" --expect "SELECT w FROM log WHERE w = 'a'" "'a'\"""", 1),
-    "log.looks": ("--look 'SELECT * FROM log' --ranks", 0),
-    "lost.lost": ("--no-serial --ranks", 0),
+    "log.looks": ("--look 'SELECT * FROM log'", 0),
+    "lost.lost": ("--no-serial", 0),
     "over.looks": (
         f"--look 'SELECT sum(v) FROM big' --expect 'SELECT sum(v), count(*) FROM big' {MOST} 2 --left --look 'SELECT v FROM big ORDER BY v'",
         1,
@@ -157,15 +157,15 @@ ASKED = {
         " --expect 'SELECT count(*) FROM t' 0 0 --expect 'SELECT id FROM t' 1",
         1,
     ),
-    "skew.both": ("--deadlock=a --deadlock=b --expect 'SELECT count(*) FROM doctor' 2 --ranks", 0),
-    "skew.deadlock_b": ("--deadlock=b --ranks", 0),
+    "skew.both": ("--deadlock=a --deadlock=b --expect 'SELECT count(*) FROM doctor' 2", 0),
+    "skew.deadlock_b": ("--deadlock=b", 0),
     "skew.no_deadlock_b": ("--no-deadlock=b --answers", 0),
     "skew.looks": (
-        """--deadlock=b --look ' ;SELECT count(*) FROM doctor; -- all' --ranks --look 'SELECT name FROM doctor\nWHERE on_call = 1'""",
+        """--deadlock=b --look ' ;SELECT count(*) FROM doctor; -- all' --look 'SELECT name FROM doctor\nWHERE on_call = 1'""",
         0,
     ),
     "stuck.left": ("--left --outcomes", 0),
-    "stuck.stuck": ("--stuck --left --answers --ranks", 0),
+    "stuck.stuck": ("--stuck --left --answers", 0),
     "transfer.waits": ("--answers --waits --expect 'SELECT sum(balance) FROM account' 200", 1),
     "wide.left": (
         f"""--look 'SELECT w FROM {LONG_TABLE}' --expect 'SELECT w FROM {LONG_TABLE}' "'a\tb'" --left --expect 'SELECT w FROM {LONG_TABLE}' "{LONG_TEXT}\"""",
@@ -175,7 +175,7 @@ ASKED = {
 # A spec, words, and what the fault line tells.
 REFUSED = [
     ("skew", "--deadlock=c", 'skew.spec: no session "c"'),
-    ("skew", "--ranks --no-deadlock=a --no-deadlock=A --brief", 'skew.spec: no session "A"'),
+    ("skew", "--no-deadlock=a --no-deadlock=A --brief", 'skew.spec: no session "A"'),
     ("skew", """--deadlock='say "a\\"'""", r'skew.spec: no session "say \"a\\\""'),
     ("lines", "--serial", "lines.spec: no serial orders"),
     ("lines", "--answers --no-serial --waits", "lines.spec: no serial orders"),
@@ -261,7 +261,7 @@ def texts_by_hand():
 def worked():
     """For each text of `classes/` the spec's path and text, the words of its run, and what it tells; and so for what is refused."""
     for path, flags, text, status in texts_by_hand():
-        runs_by_hand = [([], text), (["--workers", "1"], text), (["--workers", "3"], text)]
+        runs_by_hand = [([], text)]
         if BRIEF not in flags:
             runs_by_hand += [([BRIEF], (brief_json if JSON in flags else brief_text)(text))]
         if JSON in flags:
@@ -285,16 +285,11 @@ BROKEN = [
 ]
 
 
-# Ranges of ranks, as they are joined and told.
-RANGES = [([[0, 0]], "0"), ([[4, 5], [0, 1], [7, 7]], "0-1 4-5 7"), ([[3, 3], [2, 2], [0, 0], [4, 9]], "0 2-9")]
-
-
 def wrong_by_hand():
     """What is told otherwise than was worked out by hand."""
     for name, text, (_classes, path, *flags), want in worked():
         if Asking(text).answer(path, flags) != want:
             yield f"{name} {' '.join(flags)}"
-    yield from (f"{ranges} are told as {ranges_text(joined(ranges))}" for ranges, text in RANGES if ranges_text(joined(ranges)) != text)
     yield from (f"the share of {orders} is {share(*orders)}" for orders, text in SHARES if share(*orders) != text)
     yield from (f"{steps} stand as {[*with_steps(*steps)]}" for steps, lines in BROKEN if [*with_steps(*steps)] != lines)
 

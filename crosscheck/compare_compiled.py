@@ -62,7 +62,7 @@ class Pair:
 
     def classes(self, name, text):
         asker = Asker(name, bound(text))
-        for words in [[], ["--answers", "--brief"], ["--json", "--ranks"], *(asker.words() for _ in range(RUNS_ASKED))]:
+        for words in [[], ["--answers", "--brief"], ["--json", "--left"], *(asker.words() for _ in range(RUNS_ASKED))]:
             self.run(name, "classes", "made.spec", *words)
 
     def look(self, name, text):

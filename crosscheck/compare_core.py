@@ -2,10 +2,9 @@
 
 usage: python3 crosscheck/compare_core.py WASM FIRST_SEED SEEDS [KIND]
 
-Asked are `check`, the number of orders, some orders and one that is none, and classes by all that orders show, by what they answer, and with their
-ranks, of the examples, of specs made from so many seeds of each kind, and of a text of each with something wrong. Of a spec with many orders some are made
-permutation lines. A module that has too little memory says so, is asked again, and answers
-as the program does once it has enough. WASM is what `page/core/make` has made, or `make`: then it is made first, or `compiled`: without a proof.
+Asked are `check`, the number of orders, some orders and one that is none, and classes by all that orders show and by what they answer, of the
+examples, of specs made from so many seeds of each kind, and of a text of each with something wrong. Of a spec with many orders some are made permutation
+lines. A module that has too little memory says so, is asked again, and answers as the program does once it has enough. WASM is what `page/core/make` has made, or `make`: then it is made first, or `compiled`: without a proof.
 The program is the built one, or the one whose path stands in the variable ISOFARM. The last lines count what was answered.
 """
 
@@ -41,6 +40,8 @@ def line_of(fault, name):
     where = f"isofarm: {name}: "
     if fault["fault"] in {"spec", "sql", "bind", "start"}:
         return f"{where}{fault['fault']} error {fault['kind']} at {fault['place']}\n"
+    if fault["fault"] == "states":
+        return f"{where}too many different states: more than {fault['place']}\n"
     return {"range": f"{where}rank out of range\n", "memory": "isofarm: no memory\n"}.get(fault["fault"], str(fault))
 
 
@@ -123,8 +124,8 @@ class Comparison:
         if not isinstance(number, dict) and int(number) > MOST_ORDERS:
             self.counts["classes: too many orders"] += 1
             return
-        for words in [{}, {"answers": True}, {"ranks": True}, {"answers": True, "ranks": True}]:
-            want = self.run("classes", name, "--json", "--workers", "1", *(f"--{word}" for word in words))
+        for words in [{}, {"answers": True}]:
+            want = self.run("classes", name, "--json", *(f"--{word}" for word in words))
             self.look(where, "classes", self.core.ask("classes", text, name, words), want)
 
     def spec(self, where, text, random):

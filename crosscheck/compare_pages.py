@@ -34,8 +34,8 @@ from shown import Order, marks_text, show_value, visible
 TOP = Path(__file__).resolve().parent.parent
 MAKE = TOP / "page" / "make"
 SPECS = Path(__file__).resolve().parent / "page_specs"
-# The most rows of a SELECT that a cell shows, ranges of ranks that are told at once, and rows of a table.
-MOST_SHOWN, MOST_RANGES, MOST_LEFT = 6, 8, 50
+# The most rows of a SELECT that a cell shows, and rows of a table.
+MOST_SHOWN, MOST_LEFT = 6, 50
 # Of pages with more classes so many are read, without sentences and places.
 MOST_READ_WHOLE, READ_OF_MANY = 40, 100
 # What stands before each order of a page.
@@ -49,9 +49,9 @@ OPEN = {"in": "is in a transaction", "failed": "is in a failed block"}
 BLOCKS = {"in": "is in a transaction", "failed": "is in a failed block, which takes COMMIT and ROLLBACK alone,", "out": "has no transaction open"}
 # Words of `isofarm classes` with which pages are made beside those without words.
 OF_EXAMPLES = {
-    "deadlock": [["--answers"], ["--ranks", "--deadlock", "--no-stuck"], ["--look", "SELECT v FROM t WHERE id = 1", "--expect", "SELECT sum(v) FROM t", "32"]],
+    "deadlock": [["--answers"], ["--deadlock", "--no-stuck"], ["--look", "SELECT v FROM t WHERE id = 1", "--expect", "SELECT sum(v) FROM t", "32"]],
     "lost_update": [["--expect", "SELECT * FROM t", "1", "12", "--look", "SELECT * FROM t"], ["--stuck"]],
-    "share_beside_update": [["--ranks", "--serial"], ["--answers", "--ranks"]],
+    "share_beside_update": [["--serial"], ["--answers"]],
     "many": [["--answers"]],
 }
 
@@ -392,13 +392,6 @@ class Wanted:
     def where(self, one):
         return f"rank {one['least']}, " + ("its only order" if one["orders"] == 1 else f"the least of {plural(one['orders'], 'order')}")
 
-    def ranks(self, one):
-        if "ranks" not in one:
-            return ""
-        texts = [f"{first}" if first == last else f"{first} to {last}" for first, last in one["ranks"]]
-        more = len(texts) - MOST_RANGES
-        return f"Ranks {', '.join(texts[:MOST_RANGES])}" + (f"and {plural(more, 'range')} more{', '.join(texts[MOST_RANGES:])}" if more > 0 else "")
-
     def of_class(self, at, is_whole):
         """What is read of a class; with sentences where it is read whole."""
         one, timeline = self.classes[at], self.timeline(at)
@@ -410,7 +403,6 @@ class Wanted:
             "row": self.row(at),
             "what": f"{self.word.capitalize()} {number(at + 1)} of {number(len(self.classes))}",
             "where": self.where(one),
-            "ranks": self.ranks(one),
             "heads": ["Step", *(visible(f"session {name}") for name in timeline.names)],
             "rows": [*timeline.rows()],
             "ends": [visible(text) for text in [*timeline.ends(), *looks]],
@@ -469,7 +461,7 @@ READING = r"""
     while (!$('moments').rows.length && $('absent').hidden) await new Promise(done => setTimeout(done, 2));
     const rows = [...$('moments').rows];
     return {
-      row: rowOf(tr), what: textOf($('what')), where: textOf($('where')), ranks: textOf($('ranks')), heads: [...$('heads').children].map(one => textOf(one)),
+      row: rowOf(tr), what: textOf($('what')), where: textOf($('where')), heads: [...$('heads').children].map(one => textOf(one)),
       rows: rows.map(row => [textOf(row.querySelector('th')), [...row.querySelectorAll('td')].map(cellOf)]),
       ends: [...$('ends').querySelectorAll('p')].map(one => textOf(one)), tables: [...$('ends').querySelectorAll('table')].map(tableOf),
       sentences: whole ? rows.map(row => [...row.querySelectorAll('td')].map(sentencesOf)) : null,

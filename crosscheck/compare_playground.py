@@ -28,10 +28,13 @@ from spec_file import read_spec
 
 CORE, MODULE = TOP / "page/core.js", TOP / "out/page/page.wasm"
 EXAMPLES = TOP / "examples"
-NAME, MOST_ORDERS = "playground.spec", 20_000
+NAME = "playground.spec"
+# Of specs with more orders the classes are not known here.
+MOST_ORDERS = 20_000
 HEADS = {"name": "isofarm playground", "title": "isofarm playground"}
 SENTENCE = "Here <b>something</b> is wrong."
 LACKS, BREAKS, UNSTARTED, ENDLESS = b"# no memory for this\n", b"# this breaks the core\n", b"# this does not start\n", b"# this takes for ever\n"
+TOO_MANY = b"# this has too many states\n"
 MISTAKEN = "setup { CREATE TABLE \u00e9 (id int PRIMARY KEY); }\nsession a\nstep a1 { INSERT INTO account VALUES (1 50); }\nstep a2 { COMMIT; SELECT 1 2; }\n".encode()
 # A core that knows some texts. What it answers of them stands in its table; it is spent by one of them.
 STUB = r"""
@@ -47,7 +50,6 @@ async function makeCore(bytes) {
   };
   return {
     check: spec => ask(spec, 'check'), classes: spec => ask(spec, 'classes'), show: (spec, rank) => ask(spec, 'shows')[String(rank)],
-    ranks: spec => { const found = ask(spec, 'ranks'); return typeof found === 'string' ? BigInt(found) : found; },
     get isSpent() { return isSpent; },
   };
 }
@@ -82,17 +84,17 @@ def answers_of(text):
         return lines[text]
     right = {"check": {"faults": [], "text": ""}}
     if text == UNSTARTED:
-        return right | {"ranks": "1", "classes": {"fault": "start", "kind": 2, "place": 1}}
+        return right | {"classes": {"fault": "start", "kind": 2, "place": 1}}
+    if text == TOO_MANY:
+        return right | {"classes": {"fault": "states", "kind": 0, "place": 12_345_678}}
     faults = [dict(zip(("line", "column"), line_and_column(text, place)), sentence=SENTENCE, place=place) for place in faults_of(text)]
     if faults:
         return {"check": {"faults": faults, "text": ""}}
     spec = bind(read_spec(text))
     right["check"]["text"] = f"sessions {len(spec.session_names)}\n{idle_lines(text, read_spec(text))}"
-    if spec.ranks() > MOST_ORDERS:
-        return right | {"ranks": str(spec.ranks())}
     wanted = Wanted(text, NAME, [])
     shows = {one["least"]: show_json(Order(text, NAME, one["least"])) for one in wanted.classes}
-    return right | {"ranks": str(spec.ranks()), "classes": json.dumps(wanted.value) + "\n", "shows": shows}
+    return right | {"classes": json.dumps(wanted.value) + "\n", "shows": shows}
 
 
 def stub(texts):
@@ -159,8 +161,10 @@ class Playing(Reading):
         self.expect("the field with the way to a fault", "spec", self.browser.run("document.activeElement.id"))
 
     def refused(self):
-        """A core that lacks memory, breaks, or does not start a text, is told of; the page goes on."""
-        for text, words in ((LACKS, "not enough memory"), (BREAKS, "core has stopped"), (UNSTARTED, "The setup of a session fails (number 1"), (BREAKS, "core has stopped")):
+        """A core that lacks memory, breaks, does not start a text, or finds too many states, is told of; the page goes on."""
+        many = "The orders lead to too many different states: more than 12,345,678."
+        told = ((LACKS, "not enough memory"), (BREAKS, "core has stopped"), (UNSTARTED, "The setup of a session fails (number 1"), (TOO_MANY, many), (BREAKS, "core has stopped"))
+        for text, words in told:
             self.put(text)
             self.status(words)
             self.expect("an old answer is faint", True, self.is_old())
@@ -168,7 +172,7 @@ class Playing(Reading):
     def stopped(self):
         """A text that takes long is told so, and a new one stops it."""
         self.put(ENDLESS)
-        self.status("All orders are run ..")
+        self.status("All orders are counted ..")
         self.put(LACKS)
         self.status("not enough memory")
 
@@ -205,7 +209,7 @@ class Playing(Reading):
 
 def play(browser, path, seed, texts):
     """Uses the playground with the core that knows these texts."""
-    playing, deadlock, hostile, skew, many = Playing(browser, seed), *(texts[name] for name in ("deadlock", "hostile", "write_skew", "transfers"))
+    playing, deadlock, hostile, skew = Playing(browser, seed), *(texts[name] for name in ("deadlock", "hostile", "write_skew"))
     browser.open(path)
     playing.shows("first", deadlock)
     playing.mistakes(MISTAKEN)
@@ -219,8 +223,6 @@ def play(browser, path, seed, texts):
     playing.shows("write_skew", skew)
     playing.reaches()
     playing.address(path, skew)
-    playing.put(many)
-    playing.status(f"{plural(bind(read_spec(many)).ranks(), 'order')}: more than the 20,000")
     playing.typed(deadlock, "zz")
     return playing
 
@@ -231,11 +233,11 @@ def core_of(path, texts):
     def use(browser, seed):
         playing = Playing(browser, seed)
         browser.open(path)
-        playing.status("run here")
+        playing.status("counted here")
         for name, text in texts.items():
             playing.put(text)
             if bind(read_spec(text)).ranks() > MOST_ORDERS:
-                playing.status("more than the 20,000")
+                playing.status(playing.told(text))
             else:
                 playing.shows(name, text)
         playing.put(MISTAKEN)
@@ -253,8 +255,8 @@ def main(seed):
         print("0 pages: there is no browser here")
         return 0
     texts = {path.stem: path.read_bytes() for path in [*sorted(EXAMPLES.glob("*.spec")), *sorted(SPECS.glob("*.spec"))]}
-    known = [texts[name] for name in ("deadlock", "hostile", "write_skew", "transfers")]
-    known += [MISTAKEN, LACKS, BREAKS, UNSTARTED, ENDLESS, *(texts["deadlock"] + letters for letters in (b"z", b"zz"))]
+    known = [texts[name] for name in ("deadlock", "hostile", "write_skew")]
+    known += [MISTAKEN, LACKS, BREAKS, UNSTARTED, TOO_MANY, ENDLESS, *(texts["deadlock"] + letters for letters in (b"z", b"zz"))]
     with TemporaryDirectory() as name, ThreadPoolExecutor(len(browsers)) as pool:
         folder = Path(name)
         (folder / "stub.js").write_text(stub(known), encoding="ascii")

@@ -18,7 +18,7 @@ from random import Random
 from subprocess import run
 from tempfile import TemporaryDirectory
 
-from asked import RANKS
+from asked import HTML
 from classes import Asking as AskingOfToday
 from compare import ended
 from compare_classes import CLASS_KINDS, asker_of, specs_made, with_few_orders
@@ -39,7 +39,7 @@ HOLDS, FAILED = re.compile(r"expect .*: holds in ([\d,]+) of [\d,]+ orders?"), r
 
 def new_words(words, random):
     """Words of today in the new form. Where N is asked for, all permutations mostly are."""
-    new = [RENAMED.get(word, word) for word in words if word not in (RANKS, "--html")]
+    new = [RENAMED.get(word, word) for word in words if word != HTML]
     wants_all = random.random() < (0.9 if any("not-sent" in word for word in new) else 0.3)
     return [ALL_ORDERS] * wants_all + new
 

@@ -24,6 +24,7 @@ MOST_ORDERS = 3_000
 
 
 # A spec that was accepted, that of today, the status, and what is told behind the path.
+ADDED = "setup { CREATE TABLE t (v int); INSERT INTO t VALUES (0); } session a step s { UPDATE t SET v = v + 1; } session b"
 ONE, KEYED = "session a step s {}", "setup { CREATE TABLE t (id int PRIMARY KEY); } session a step s { INSERT INTO t VALUES (1); }"
 READ = """A
 
@@ -41,11 +42,7 @@ WORKED = [
         ONE,
         "session a step r {}",
         1,
-        """differs in 1 of 1 order
-  first at rank 0: r
-  session a
-    was: step s
-    is: step r
+        """differs: classes gone 1, new 1, changed 0
   gone
         1       1    100.0  ------     0  s
   new
@@ -66,40 +63,30 @@ WORKED = [
     session a: error: duplicate key
     session b: error: duplicate key""",
     ),
-    (KEYED, KEYED.replace("VALUES (1)", "VALUES (2)"), 1, """differs in 1 of 1 order
-  first at rank 0: s
-  left in t
-    was: 1
-    is: 2
+    (KEYED, KEYED.replace("VALUES (1)", "VALUES (2)"), 1, """differs: classes gone 1, new 1, changed 0
   gone
         1       1    100.0  ------     0  s
   new
         1       1    100.0  ------     0  s"""),
     (ONE, "session a step", 3, "spec error 4 at 14"),
+    # Both orders left 3, and now the first one leaves 2.
+    (
+        f"{ADDED} step t {{ UPDATE t SET v = v + 2; }}",
+        f"{ADDED} step t {{ UPDATE t SET v = 2; }}",
+        1,
+        """differs: classes gone 0, new 1, changed 1
+  new
+        1       1     50.0  ------     0  s t
+  changed
+    was: 1       2    100.0  ------     0  s t
+    is: 2       1     50.0  ------     1  t s""",
+    ),
     # Texts that are read have line feeds, an empty line, and what looks like an error and a class.
     (
         READS,
         READS.replace("BB", "BC"),
         1,
-        """differs in 1 of 1 order
-  first at rank 0: s
-  session a
-    was: row 'A
-
-  error: deadlock
-left in u
-    2       1     50.0  ------     1  s
-
-ranks 1
-''BB'
-    is: row 'A
-
-  error: deadlock
-left in u
-    2       1     50.0  ------     1  s
-
-ranks 1
-''BC'
+        """differs: classes gone 1, new 1, changed 0
   gone
         1       1    100.0  ------     0  s
   new

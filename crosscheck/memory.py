@@ -14,7 +14,7 @@ from pathlib import Path
 from shlex import split
 from tempfile import TemporaryDirectory
 
-from compare import PROGRAM, PROGRESS, ended, told
+from compare import PROGRAM, PROGRESS, STATES, ended, told
 from generate import KINDS, Maker
 from memory_of_tests import WORDS as OF_TESTS
 from memory_of_tests import Tested
@@ -37,12 +37,12 @@ OF_BOOKS += ["run deadlock.spec --workers 1", "missing low.book", "missing high.
 OF_BOOKS += ["missing all.book wrong.spec", "join - low.book -"]
 OF_BOOKS += ["holds low.book deadlock.spec 0 9", "holds low.book deadlock.spec 0 10", "holds low.book wrong.spec 0 1"]
 OF_BOOKS += ["audit all.book", "audit wrong.spec", "judge all.book all.book", "judge all.book low.book", "judge all.book other.book --show"]
-OF_BOOKS += ["classes deadlock.spec", "classes deadlock.spec --answers --brief", "classes deadlock.spec --workers 1", "classes wrong.spec"]
-OF_BOOKS += ["classes deadlock.spec --deadlock=b --no-error --ranks --outcomes --left --workers 1", "classes deadlock.spec --deadlock=c"]
-OF_BOOKS += ["classes deadlock.spec --no-serial --look 'SELECT * FROM t ORDER BY v DESC' --expect 'SELECT v FROM t WHERE id = 2' 42 --workers 1"]
-OF_BOOKS += ["classes deadlock.spec --json --ranks --look 'SELECT * FROM t WHERE v < 42' --expect 'SELECT v FROM t WHERE id = 2' 42 --workers 1"]
-OF_BOOKS += ["classes deadlock.spec --json --answers --brief --workers 1", "classes deadlock.spec --json --deadlock=c"]
-OF_BOOKS += ["classes lost_update.spec --html --workers 1", "classes deadlock.spec --html --deadlock=b --expect 'SELECT v FROM t WHERE id = 2' 42 --workers 1"]
+OF_BOOKS += ["classes deadlock.spec", "classes deadlock.spec --answers --brief", "classes deadlock.spec --progress", "classes wrong.spec"]
+OF_BOOKS += ["classes deadlock.spec --deadlock=b --no-error --outcomes --left", "classes deadlock.spec --deadlock=c"]
+OF_BOOKS += ["classes deadlock.spec --no-serial --look 'SELECT * FROM t ORDER BY v DESC' --expect 'SELECT v FROM t WHERE id = 2' 42"]
+OF_BOOKS += ["classes deadlock.spec --json --look 'SELECT * FROM t WHERE v < 42' --expect 'SELECT v FROM t WHERE id = 2' 42"]
+OF_BOOKS += ["classes deadlock.spec --json --answers --brief", "classes deadlock.spec --json --deadlock=c"]
+OF_BOOKS += ["classes lost_update.spec --html", "classes deadlock.spec --html --deadlock=b --expect 'SELECT v FROM t WHERE id = 2' 42"]
 OF_BOOKS += ["classes --book all.book", "classes --book high.book low.book --ranks --outcomes", "classes --book low.book --json --ranks"]
 OF_BOOKS += ["classes --book all.book clash.book", "classes --book all.book wrong.spec"]
 OF_BOOKS += ["test", "test all.book --workers 0", "test - -"]
@@ -69,7 +69,7 @@ def make_books(folder):
 def told_at_last(words, folder, settings):
     """What a run tells, but for how far it is, which is left out where there is no memory for it."""
     status, out, error = told(PROGRAM, words, folder, settings)
-    return status, out, PROGRESS.sub(b"", error)
+    return status, out, STATES.sub(b"", PROGRESS.sub(b"", error))
 
 
 def look_at(words, folder):

@@ -32,6 +32,7 @@ FAULTS = [
     (3, "no such line", NAMED, {"rank", "show"}),
     (3, f"no session {NAME}", NAMED, {"classes"}),
     (3, "no serial orders", NAMED, {"classes"}),
+    (3, f"too many different states: more than {N}", NAMED, {"classes"}),
     (3, f"{NAME}: (?:sql error [1-6] at {N}|not one SELECT|bind error [234] at {N}|no value)", UNNAMED, {"classes"}),
     (3, "shard error [12]", NAMED, {"run"}),
     (3, "book error [1-8]", NAMED, OF_BOOKS),
@@ -53,10 +54,10 @@ PAGE_FRONT, PAGE_BACK = rb'<!doctype html>\n.+<script type="application/json" id
 OUTCOMES_TITLE = rb"[^\n]+: (?:%(n)s of )?%(n)s orders?, %(n)s outcomes?\n\nwhat orders leave is in no book, so S and R are not told\n"
 MISSING = rb"(?:no order is missing|1 order is missing, of rank %(n)s|%(n)s orders are missing, the first of rank %(n)s)\n"
 BOOK = rb'\{"facts":\[.*\],"format":2,"outcomes":\[.*\],"spec":".*"\}\n'
-DIFFERS = rb"differs in %(n)s of %(n)s orders?\n  first at rank %(n)s: .+\n    was: [^\n]*\n(?:[^\n]*\n)*?    is: .+"
+DIFFERS = rb"differs: classes gone %(n)s, new %(n)s, changed %(n)s" + b"".join(rb"(?:\n  " + part + rb"(?:\n    [^\n]+)+)?" for part in (b"gone", b"new", b"changed"))
 HAS_OTHERS = rb"has %(n)s orders?, accepted are %(n)s; what they leave and who fails is compared\n  .+"
-NO_ORDER = rb"differs, and (?:no order does|what is accepted is no text of classes)"
-REFUSED = rb"(?:spec error [1-9]|sql error [1-7]|bind error [2-8]|start error [1-3]) at %(n)s"
+NO_ORDER = rb"differs, and (?:no order does|what is accepted is (?:no text of classes|a text of an earlier version))"
+REFUSED = rb"(?:(?:spec error [1-9]|sql error [1-7]|bind error [2-8]|start error [1-3]) at %(n)s|too many different states: more than %(n)s)"
 IDLE = [b"isolation level", b"SET", b"NOT NULL", b"teardown", b"marker"]
 # What stands on standard output where no fault is told.
 ANSWERS = {

@@ -33,7 +33,7 @@ import compare_book_classes
 import compare_classes
 import compare_files
 import compare_hostile
-from asked import ANSWERS, FILTERS, HTML, JSON, LEFT, OUTCOMES, RANKS
+from asked import ANSWERS, FILTERS, HTML, JSON, LEFT, OUTCOMES
 from asking import opposite
 from book_class_laws import read_back as books_read_back
 from book_classes import FLAGS
@@ -190,11 +190,10 @@ class Soak:
                 self.hold_same([(ran.status, ran.out) for ran in (shown, named)], "an order is shown otherwise by its names", shown, named)
 
     def classes(self, path, number, starts):
-        """All orders in classes, as text, as JSON or as a page, by some workers and others, and those that pass a filter beside those that do not."""
-        flags = [flag for flag in (ANSWERS, RANKS, OUTCOMES, LEFT) if self.random.random() < 0.5] + self.random.choice([[], [JSON], [HTML]])
-        ran, again = self.run("classes", path, *flags, *self.workers()), self.run("classes", path, *flags, "--workers", 1)
+        """All orders in classes, as text, as JSON or as a page, and those that pass a filter beside those that do not."""
+        flags = [flag for flag in (ANSWERS, OUTCOMES, LEFT) if self.random.random() < 0.5] + self.random.choice([[], [JSON], [HTML]])
+        ran = self.run("classes", path, *flags)
         self.hold(ran.status == (0 if starts else 3), "orders are not classed", ran)
-        self.hold_same([ran.told, again.told], "some workers tell other classes than one", ran, again)
         word = self.random.choice([word for word, (letter, _has) in FILTERS.items() if letter != "R"])
         runs = [self.run("classes", path, one, *flags) for one in (word, opposite(word))]
         self.hold_same([(ran.status, ran.error) for ran in (ran, *runs)], "a filter has another fault", ran, *runs)

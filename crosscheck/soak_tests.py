@@ -3,7 +3,7 @@
 from pathlib import Path
 from xml.etree import ElementTree
 
-from asked import LEFT, OUTCOMES, RANKS
+from asked import LEFT, OUTCOMES
 from damage import DAMAGES_OF_BYTES
 from trial_runs import as_xml
 
@@ -15,7 +15,7 @@ def test(soak, path, starts):
     """All that a soak looks at in tests of a spec that has few orders."""
     accepted = Path(f"{path.removesuffix('.spec')}.accepted")
     accepted.unlink(missing_ok=True)
-    first, classes = soak.run("test", path, *soak.workers()), soak.run("classes", path, RANKS, OUTCOMES, LEFT)
+    first, classes = soak.run("test", path, *soak.workers()), soak.run("classes", path, OUTCOMES, LEFT)
     if not starts:
         soak.hold(first.told == (3, classes.error.removeprefix(b"isofarm: "), b""), "a test tells another fault of a start", first, classes)
         return

@@ -9,10 +9,9 @@ from functools import cached_property
 
 from asked import asked_by
 from classes import Asking, Page
-from orders import order_text
 from refusal import Refusal
 
-FLAGS = ["--ranks", "--outcomes", "--left"]
+FLAGS = ["--outcomes", "--left"]
 MOST_TOLD = 5
 EVENT, SESSION, ERROR = "  ", "session ", "  error: "
 # A line of what a class shows. A text of a row may have line feeds, which end no line.
@@ -21,11 +20,14 @@ LINE = re.compile(r"(  row (?:'[^']*'|[^'\n])*|[^\n]*)(?:\n|$)")
 
 @dataclass
 class OneClass:
-    """A class: its lines of the table, the lines of what it shows, and its ranks."""
+    """A class: its lines of the table, and the lines of what it shows."""
 
     table: list
     shown: tuple
-    ranges: list
+
+    def is_as(self, other):
+        """Whether the lines of the table are those of another class but for the number in front."""
+        return [self.table[0].split(maxsplit=1)[1], *self.table[1:]] == [other.table[0].split(maxsplit=1)[1], *other.table[1:]]
 
 
 class Side:
@@ -43,22 +45,19 @@ class Side:
     @cached_property
     def each(self):
         bare = Page(self.classes, self.name, asked_by([]))
-        full = Page(self.classes, self.name, asked_by(FLAGS[1:]))
+        full = Page(self.classes, self.name, asked_by(FLAGS))
         tables = []
         for line in [*bare.class_lines()][1:]:
             if line[: len("class")].strip():
                 tables.append([])
             tables[-1].append(line)
         shown = [lines_of("\n".join(full.told_besides(group))) for group in full.groups]
-        return [OneClass(*three) for three in zip(tables, shown, (group.ranges for group in bare.groups), strict=True)]
+        return [OneClass(*pair) for pair in zip(tables, shown, strict=True)]
 
-    def shown_by_rank(self):
-        """What each rank shows, in the order of the ranks."""
-        by_rank = [None] * self.orders
-        for one in self.each:
-            for first, last in one.ranges:
-                by_rank[first : last + 1] = [one.shown] * (last - first + 1)
-        return by_rank
+    @cached_property
+    def by_shown(self):
+        """The classes by what they show."""
+        return {one.shown: one for one in self.each}
 
     def lefts(self):
         """What is left, each once, in the order of its bytes."""
@@ -112,33 +111,21 @@ def some(head, lists, between=()):
         yield f"    and {len(lists) - MOST_TOLD} more"
 
 
-def first_line(was, now):
-    """The last line before the first that differs which is no event, and the two lines."""
-    below = ""
-    for old, new in zip([*was, *[""] * len(now)], [*now, *[""] * len(was)], strict=True):
-        if old != new:
-            return below, old, new
-        below = below if old.startswith(EVENT) else old
-    raise AssertionError("the same")
+def as_it_was(old, new):
+    """The lines of the table of a class, as they were and as they are."""
+    return [line for word, (first, *others) in (("was", old.table), ("is", new.table)) for line in [f"{word}: {first.lstrip()}", *others]]
 
 
-def told_of_orders(was, now):
-    old, new = was.shown_by_rank(), now.shown_by_rank()
-    differ = [rank for rank in range(now.orders) if old[rank] != new[rank]]
-    if not differ:
+def told_of_classes(was, now):
+    gone, come = ([one.table for one in side.each if one.shown not in other.by_shown] for side, other in ((was, now), (now, was)))
+    pairs = [(was.by_shown[one.shown], one) for one in now.each if one.shown in was.by_shown]
+    changed = [as_it_was(old, new) for old, new in pairs if not old.is_as(new)]
+    if not gone + come + changed:
         yield "differs, and no order does"
         return
-    yield f"differs in {len(differ)} of {now.orders} order{'s' * (now.orders != 1)}"
-    first = differ[0]
-    spec = now.asking.spec
-    yield f"  first at rank {first}: {order_text(spec, first).removesuffix(chr(10))}"
-    below, old_line, new_line = first_line(old[first], new[first])
-    yield from [f"  {below}"] * bool(below)
-    for word, line in (("was", old_line), ("is", new_line)):
-        yield f"    {word}: {line.lstrip() or 'nothing more'}"
-    for head, side, other in (("gone", was, now), ("new", now, was)):
-        others = {one.shown for one in other.each}
-        yield from some(head, [one.table for one in side.each if one.shown not in others])
+    yield f"differs: classes gone {len(gone)}, new {len(come)}, changed {len(changed)}"
+    for head, lists in (("gone", gone), ("new", come), ("changed", changed)):
+        yield from some(head, lists)
 
 
 def told_of_others(was, now):
@@ -164,5 +151,5 @@ def told(name, accepted, text):
         return 3, refusal.line(name).removeprefix(b"isofarm: ")
     if was.text == now.text:
         return 0, f"{name}: as accepted\n".encode()
-    lines = told_of_orders(was, now) if was.orders == now.orders else told_of_others(was, now)
+    lines = told_of_classes(was, now) if was.orders == now.orders else told_of_others(was, now)
     return 1, f"{name}: ".encode() + "".join(f"{line}\n" for line in lines).encode()

@@ -15,7 +15,7 @@ from tempfile import TemporaryDirectory
 from asked import Asked
 from book_classes import BookClasses, BookPage
 from books import book_text, facts_of
-from compare import PROGRAM, PROGRESS, difference, ended, expected, told
+from compare import PROGRAM, PROGRESS, STATES, difference, ended, expected, told
 from compare_files import answer, order, run
 from damage import text_of
 from spec_tests import Side
@@ -66,7 +66,7 @@ FILES = {
     "empty": b"",
 }
 GOOD = ["one first.spec 0", "check first.spec", "count first.spec", "rank first.spec a1 b1", "order first.spec 1", "show first.spec 1", "run first.spec 0 2", "join all.book", "report all.book"]
-GOOD += ["show first.spec a1 b1 --json", "classes first.spec", "classes first.spec --answers --brief", "classes first.spec --workers 16", "classes first.spec --waits --no-serial --ranks --outcomes --left", "classes first.spec --json", "classes first.spec --html", "classes --answers --html first.spec --ranks", "holds all.book first.spec 0 2", "run first.spec 0 2 --workers 16", "audit all.book", "judge all.book all.book", "judge all.book all.book --show"]
+GOOD += ["show first.spec a1 b1 --json", "classes first.spec", "classes first.spec --answers --brief", "classes first.spec --waits --no-serial --outcomes --left", "classes first.spec --json", "classes first.spec --html", "classes --answers --html first.spec", "holds all.book first.spec 0 2", "run first.spec 0 2 --workers 16", "audit all.book", "judge all.book all.book", "judge all.book all.book --show"]
 GOOD += ["run first.spec", "missing one.book", "missing one.book --lines"]
 GOOD += ["test first.spec", "test first.spec many.spec --workers 16", "test --update first.spec", "test --junit report.xml first.spec folder.accepted"]
 GOOD += ["classes --book all.book", "classes --book one.book all.book --json --ranks", "classes --outcomes --book clash.book --ranks"]
@@ -78,7 +78,7 @@ NO_COMMANDS += [f"join{' all.book' * 1001}", "report", "report all.book all.book
 NO_COMMANDS += [f"run first.spec 0 1 --workers{number}" for number in ("", " 0", " 17", " x", " -1", " 4294967297")]
 NO_COMMANDS += ["rank", "rank first.spec", f"rank first.spec{' a1' * 1001}", "order", "order first.spec", "order first.spec x", "order first.spec 0 1"]
 NO_COMMANDS += ["show", "show first.spec", "show first.spec --json", f"show first.spec{' a1' * 1001}", "show first.spec 0 --text"]
-NO_COMMANDS += ["classes", "classes first.spec 0", "classes first.spec --workers 0", "classes first.spec --json --json", "classes first.spec --json=1"]
+NO_COMMANDS += ["classes", "classes first.spec 0", "classes first.spec --workers 1", "classes first.spec --ranks", "classes --ranks --json first.spec", "classes --ranks", "classes first.spec --json --json", "classes first.spec --json=1"]
 NO_COMMANDS += ["classes first.spec --html --json", "classes --json first.spec --html", "classes --brief --html first.spec", "classes first.spec --html --html", "classes first.spec --html=1", "classes --html", "show first.spec 0 --html"]
 NO_COMMANDS += ["classes --book", "classes --book --json", "classes --book all.book --json --json", "classes first.spec --book all.book", "classes --json first.spec --book all.book", f"classes --book{' all.book' * 1001}"]
 NO_COMMANDS += [f"classes --book all.book {flag}" for flag in ("--left", "--answers", "--waits", "--no-deadlock", "--look SELECT", "--workers 2", "--progress", "--html", "--every")]
@@ -119,6 +119,8 @@ session b
   done
 """
 SHARD = 1_000
+# The read may come before the insert or behind it: two orders that lead to two states, by one each between; and the steps to them.
+STATES_OF_FIRST = 5, 4
 # Seconds that a run here takes at most.
 LONGEST = 60
 
@@ -249,7 +251,7 @@ def inputs(folder):
 
 
 def standings(error):
-    """What lines of progress tell: shards, ranks, and tenths of a second. None where there is anything else."""
+    """What lines of a run tell: shards, ranks, and tenths of a second. None where there is anything else."""
     if PROGRESS.sub(b"", error):
         return None
     rows = [[int(number) for number in row] for row in PROGRESS.findall(error)]
@@ -272,25 +274,41 @@ def progress_fault(error, first, end, seconds):
     return None
 
 
-def wrong_progress(folder, words, first, end):
-    """What is wrong with words that tell how far they are with these ranks, or nothing."""
+def states_fault(error, states, steps, seconds):
+    """What is wrong with the lines of classes that took at most so many seconds, of a spec with so many states and steps between them, or nothing."""
+    rows = [[int(number) for number in row] for row in STATES.findall(error)]
+    if STATES.sub(b"", error) or not rows:
+        return "other lines, or none"
+    if rows[-1][:2] != [states, steps]:
+        return f"the last line tells of {rows[-1][0]} states and {rows[-1][1]} steps"
+    for earlier, later in zip(rows, rows[1:]):
+        if any(one > other for one, other in zip([*earlier[:2], earlier[2:]], [*later[:2], later[2:]])):
+            return "lines go back"
+    if rows[-1][2] * 10 + rows[-1][3] > seconds * 10 or len(rows) - 1 > seconds * 8:
+        return "a line has more seconds, or lines are too many"
+    return None
+
+
+def wrong_progress(folder, words, fault_of):
+    """What is wrong with words that tell how far they are, or nothing."""
     plain = told(PROGRAM, words, folder, {})
     begun = time.monotonic()
     status, out, error = told(PROGRAM, [*words, "--progress"], folder, {})
-    fault = progress_fault(error, first, end, time.monotonic() - begun)
+    fault = fault_of(error, time.monotonic() - begun)
     if (status, out, b"") != plain:
         fault = "another answer or status"
     return f"{' '.join(words)} --progress: {fault}" if fault else None
 
 
 def progress_in(folder):
-    """For runs that tell how far they are: what is wrong, or nothing."""
-    for spec, ranks in [("first.spec", 2), ("many.spec", 1_680)]:
-        for flags in ("", "--workers 1", "--workers 16 --answers", "--no-waits --brief", "--json", "--html"):
-            yield wrong_progress(folder, ["classes", spec, *flags.split()], 0, ranks)
+    """For words that tell how far they are: what is wrong, or nothing."""
+    # Of sessions without statements a state is how many steps each has sent. From each of them a step leads on for each session that has one left.
+    for spec, states, steps in [("first.spec", *STATES_OF_FIRST), ("many.spec", 64, 144)]:
+        for flags in ("", "--answers", "--no-waits --brief", "--json", "--html"):
+            yield wrong_progress(folder, ["classes", spec, *flags.split()], lambda error, seconds: states_fault(error, states, steps, seconds))
     for spec, first, end in [("first.spec", 0, 2), ("first.spec", 1, 1), ("large.spec", 7, 3_007), ("large.spec", U32, U32 + 60_020)]:
         for flags in ("", "--workers 1", "--workers 16", "--every", "--every --workers 1"):
-            yield wrong_progress(folder, ["run", spec, str(first), str(end), *flags.split()], first, end)
+            yield wrong_progress(folder, ["run", spec, str(first), str(end), *flags.split()], lambda error, seconds: progress_fault(error, first, end, seconds))
     for redirections in ("2> /dev/full", "2>&-"):
         got = told_into("run first.spec 0 2 --progress", folder, f"{redirections} > progress.book")
         is_right = got == (0, b"") and Path(folder, "progress.book").read_bytes() == BOOK

@@ -48,11 +48,7 @@ EDITS = [
         (f"{GUARD}; }}\nsession b\nstep b1 {{ {ADDS}{GUARD}", f"{GUARD}; }}\nsession b\nstep b1 {{ {ADDS}"),
         (
             1,
-            """differs in 1 of 2 orders
-  first at rank 0: a1 b1
-  session b
-    was: updated 0
-    is: updated 1
+            """differs: classes gone 1, new 1, changed 0
   gone
         1       1     50.0  ------     0  a1 b1
   new
@@ -66,11 +62,7 @@ EDITS = [
         ("]]> \"\"it's\"\"", "--> &amp;"),
         (
             1,
-            """differs in 1 of 1 order
-  first at rank 0: "--> &amp;"
-  session <a & b>
-    was: step ]]> "it's"
-    is: step --> &amp;
+            """differs: classes gone 1, new 1, changed 0
   gone
         1       1    100.0  ------     0  "]]> ""it's\"""
   new
@@ -89,11 +81,7 @@ EDITS = [
         ("step s", "step r"),
         (
             1,
-            """differs in 1 of 1 order
-  first at rank 0: r
-  session a
-    was: step s
-    is: step r
+            """differs: classes gone 1, new 1, changed 0
   gone
         1       1    100.0  ------     0  s
   new

@@ -7,12 +7,13 @@
 // want of memory where they do not do; else it has what the browser gives, 4 GiB at most.
 //
 // A spec is bytes (Uint8Array), a rank a BigInt, a name a string. Each call answers at once. A fault is an object {fault, kind, place}, where `fault` is
-// one of the words of CORE_FAULTS; `kind` and `place` are numbers, as in the program's fault lines, or 0.
+// one of the words of CORE_FAULTS; `kind` and `place` are numbers, as in the program's fault lines, or 0. Where the orders lead to too many different states,
+// `fault` is 'states' and `place` is how many were noted.
 // After a trap, as of a stack that is full, a call answers {fault: 'trap'}, as each later one does: `core.isSpent` is true, and another core is to be made.
 'use strict';
 
-const CORE_FAULTS = [null, 'spec', 'sql', 'bind', 'range', 'start', 'memory', 'room', 'name', 'trap'];
-const CORE_MEMORY = 6, CORE_ROOM = 7, CORE_TRAP = 9;
+const CORE_FAULTS = [null, 'spec', 'sql', 'bind', 'range', 'start', 'memory', 'room', 'name', 'states', 'trap'];
+const CORE_MEMORY = 6, CORE_ROOM = 7, CORE_TRAP = 10;
 // So many bytes of a spec are read at most, as the program does it: one more than a spec may have.
 const CORE_SPEC = 65537;
 // Room for a text at first. One that has more is asked for again.
@@ -94,9 +95,9 @@ async function makeCore(wasmBytes, {memory = 0} = {}) {
     return textOrFault(textOf(spec, name, (given, got) => calls.page_show(...given, BigInt.asUintN(64, BigInt(rank)), ...got)));
   }
 
-  // What `isofarm classes SPEC --json` prints, with --answers and --ranks.
-  function classes(spec, name, {answers = false, ranks = false} = {}) {
-    return textOrFault(textOf(spec, name, (given, got) => calls.page_classes(...given, answers ? 1 : 0, ranks ? 1 : 0, ...got)));
+  // What `isofarm classes SPEC --json` prints, or with --answers.
+  function classes(spec, name, {answers = false} = {}) {
+    return textOrFault(textOf(spec, name, (given, got) => calls.page_classes(...given, answers ? 1 : 0, ...got)));
   }
 
   // What `isofarm check SPEC` prints, and each fault of it: {line, column, sentence, place}, where the place is an offset in the spec's bytes. Of a spec that

@@ -14,9 +14,8 @@ const LETTERS = {
 };
 const KEYWORDS = ['notices', 'permutation', 'session', 'setup', 'step', 'teardown'];
 const OPEN = { in: ' is in a transaction', failed: ' is in a failed block', waits: ' waits' };
-// Rows of classes that are drawn, and that are drawn before others may go on; ranges of ranks that are told at once; rows of a
-// SELECT that a cell shows; rows of a table.
-const MOST_ROWS = 1000, ROWS_AT_ONCE = 100, MOST_RANGES = 8, MOST_SHOWN = 6, MOST_LEFT = 50;
+// Rows of classes that are drawn, and that are drawn before others may go on; rows of a SELECT that a cell shows; rows of a table.
+const MOST_ROWS = 1000, ROWS_AT_ONCE = 100, MOST_SHOWN = 6, MOST_LEFT = 50;
 // Characters that show nothing or steer.
 const HIDDEN = new RegExp('[\\0-\\x1f\\x7f-\\x9f\\xad\\u034f\\u061c\\u115f\\u1160\\u17b4\\u17b5\\u180b-\\u180f\\u200b-\\u200f\\u2028-\\u202e\\u2060-\\u206f'
   + '\\u3164\\ufe00-\\ufe0f\\ufeff\\uffa0\\ufff0-\\ufffb\\u{1bca0}-\\u{1bca3}\\u{1d173}-\\u{1d17a}\\u{e0000}-\\u{e0fff}]', 'gu');
@@ -36,10 +35,13 @@ function h(tag, props, ...children) {
 }
 const number = new Intl.NumberFormat('en').format;
 const plural = (count, word, words) => `${number(count)} ${Number(count) === 1 ? word : words || `${word}s`}`;
-const share = (count, all) => `${(Math.max(Math.floor(count * 1000 / all), count ? 1 : 0) / 10 || 0).toFixed(1)} %`;
+const share = (count, all) => `${(Math.max(all ? Number(BigInt(count) * 1000n / BigInt(all)) : 0, count ? 1 : 0) / 10).toFixed(1)} %`;
 const spaced = (parts, by) => parts.flatMap((part, at) => at ? [by, part] : [part]);
 const listed = parts => parts.flatMap((part, at) => at ? [at === parts.length - 1 ? ' and ' : ', ', part] : [part]);
 const visible = text => text.replace(HIDDEN, one => `\\u{${one.codePointAt(0).toString(16)}}`);
+// What a text of JSON says. A number of so many digits that it would not stand there exactly is a BigInt.
+const exact = text => text.replace(/"(?:[^"\\]|\\.)*"|\d{16,}/g, one => one[0] === '"' ? one : `{"digits":"${one}"}`);
+const parsed = text => JSON.parse(/[[:,]\d{16}/.test(text) ? exact(text) : text, (_key, one) => one && one.digits ? BigInt(one.digits) : one);
 // A text of the spec. It is isolated, so that its direction of writing leaves the words around it in their places.
 const name = text => h('bdi', null, visible(text));
 const isPlain = text => /^[A-Za-z_\u0080-\u{10ffff}][\w$\u0080-\u{10ffff}]*$/u.test(text) && !KEYWORDS.includes(text);
@@ -91,7 +93,8 @@ const seenText = lines => lines.filter(line => !line.startsWith('rows ') || line
 
 function placesAsked() {
   const places = data.classes.map((_one, at) => at).filter(at => isAsked(data.classes[at]));
-  return by === 'size' ? places.sort((a, b) => data.classes[b].orders - data.classes[a].orders || a - b) : places;
+  const size = at => data.classes[at].orders;
+  return by === 'size' ? places.sort((a, b) => (size(a) < size(b)) - (size(a) > size(b)) || a - b) : places;
 }
 
 function drawFilters() {
@@ -118,7 +121,7 @@ function press(letter, state) {
 function rowOf(at, most) {
   const one = data.classes[at], tags = tagsOf(one);
   const bar = h('i');
-  bar.style.width = `${Math.round(one.orders / most * 1000) / 10}%`;
+  bar.style.width = `${Math.round(Number(one.orders) / Number(most) * 1000) / 10}%`;
   return h('tr', { role: 'row', id: `class-${at}`, 'data-at': at, tabindex: at === picked ? 0 : -1, 'aria-selected': String(at === picked), onclick: () => pick(at) },
     h('td', { role: 'gridcell', class: 'number' }, String(at + 1)),
     h('td', { role: 'gridcell' }, h('div', { class: 'order' }, orderShown(one)),
@@ -136,8 +139,8 @@ function drawRows(places, most, count) {
 }
 
 function drawClasses() {
-  const places = placesAsked(), most = data.classes.reduce((most, one) => Math.max(most, one.orders), 1);
-  const orders = places.reduce((sum, at) => sum + data.classes[at].orders, 0);
+  const places = placesAsked(), most = data.classes.reduce((most, one) => one.orders > most ? one.orders : most, 1);
+  const orders = places.reduce((sum, at) => sum + BigInt(data.classes[at].orders), 0n);
   if (places.length && !places.includes(picked)) picked = places[0];
   drawnRows = Math.max(drawnRows, places.indexOf(picked) + 1);
   const all = classesWord(data.classes.length);
@@ -255,15 +258,8 @@ function drawOrder() {
   $('absent').hidden = true;
   $('what').textContent = one ? `${isByAnswers() ? 'Answer' : 'Class'} ${number(at + 1)} of ${number(data.classes.length)}` : 'No class';
   $('where').textContent = one ? (one.orders === 1 ? `rank ${one.least}, its only order` : `rank ${one.least}, the least of ${plural(one.orders, 'order')}`) : '';
-  $('ranks').replaceChildren(...(one && one.ranks ? ranksShown(one.ranks) : []));
   inspect(null);
   if (one) source(at, found => { if (at === picked && one === data.classes[at]) drawFound(one, found); });
-}
-
-function ranksShown(ranges) {
-  const texts = ranges.map(([first, last]) => first === last ? `${first}` : `${first} to ${last}`), more = texts.length - MOST_RANGES;
-  const front = `Ranks ${texts.slice(0, MOST_RANGES).join(', ')}`;
-  return more > 0 ? [front, h('details', null, h('summary', null, `and ${plural(more, 'range')} more`), h('p', null, texts.slice(MOST_RANGES).join(', ')))] : [front];
 }
 
 // The words of a command, for a shell.
@@ -522,10 +518,10 @@ $('theme').addEventListener('click', () => {
 });
 
 if ($('classes')) {
-  const given = JSON.parse($('classes').textContent), orders = document.querySelectorAll('script.order');
+  const given = parsed($('classes').textContent), orders = document.querySelectorAll('script.order');
   data = given;
   $('name').replaceChildren(name(given.name));
   document.title = `${visible(given.name)}: ${plural(given.orders, 'order')}, ${classesWord(given.classes.length)}`;
-  show(given, (at, tell) => tell(at < orders.length ? JSON.parse(orders[at].textContent) : null), linkedClass());
+  show(given, (at, tell) => tell(at < orders.length ? parsed(orders[at].textContent) : null), linkedClass());
   addEventListener('hashchange', () => { if (linkedClass() >= 0 && linkedClass() !== picked) pick(linkedClass(), true); });
 }

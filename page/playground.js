@@ -35,7 +35,7 @@
     spec = encoder.encode($('spec').value);
     wanted = null;
     clearTimeout(running);
-    running = setTimeout(() => status(false, 'All orders are run ..'), PATIENCE);
+    running = setTimeout(() => status(false, 'All orders are counted ..'), PATIENCE);
     put({});
   }
 
@@ -49,25 +49,25 @@
     clearTimeout(running);
     isBusy = false;
     if (answer.order) {
-      if (wanted && wanted.rank === answer.rank) wanted.tellOrder(JSON.parse(answer.order));
-    } else if (answer.classes) tellClasses(JSON.parse(answer.classes), answer.notes);
+      if (wanted && wanted.rank === answer.rank) wanted.tellOrder(parsed(answer.order));
+    } else if (answer.classes) tellClasses(parsed(answer.classes), answer.notes);
     else {
       stale(true);
       if (answer.faults) status(true, ...answer.faults.map(faultShown));
-      else if (answer.tooMany) status(false, `${plural(BigInt(answer.tooMany), 'order')}: more than the 20,000 that are run in the page. isofarm classes runs them.`);
       else status(true, refusedText(answer.refused));
     }
   }
 
   function refusedText({ fault, kind, place }) {
     if (fault === 'start') return `${REFUSED.start[kind]} (number ${place} of the file, from 0), so no order can be run.`;
+    if (fault === 'states') return `The orders lead to too many different states: more than ${number(place)}.`;
     return REFUSED[fault] || `The text is refused: ${fault}.`;
   }
 
   function tellClasses(given, notes) {
     stale(false);
     const counts = [plural(given.sessions.length, 'session'), plural(given.steps.length, 'step'), plural(given.orders, 'order')];
-    status(false, h('p', null, `${counts.join(', ')}: ${given.orders === 1 ? 'it was' : 'all were'} run here, in the page.`), ...notes.map(note => h('p', { class: 'muted' }, note)));
+    status(false, h('p', null, `${counts.join(', ')}: ${given.orders === 1 ? 'it was' : 'all were'} counted here, in the page.`), ...notes.map(note => h('p', { class: 'muted' }, note)));
     const linked = data ? picked : Number((location.hash.match(/class=(\d+)/) || [])[1] || 1) - 1;
     show(given, askOrder, linked < given.classes.length ? linked : 0);
   }

@@ -1,19 +1,14 @@
 
 // ---- what the playground asks, in a worker
 
-// Orders of a spec that are run at most.
-const MOST_ORDERS = 20000;
 let moduleBytes = null, core = null, last = Promise.resolve();
 
-// What a text comes to: its faults; or more orders than are run; or its classes. A core that is spent is not used again.
+// What a text comes to: its faults; or its classes; or why there are none. A core that is spent is not used again.
 function answerOf(spec, name) {
   const checked = core.check(spec, name);
   if (checked.fault) return { refused: checked };
   if (checked.faults.length) return { faults: checked.faults };
-  const orders = core.ranks(spec);
-  if (typeof orders !== 'bigint') return { refused: orders };
   const notes = checked.text.split('\n').filter(line => line.startsWith('no effect: '));
-  if (orders > BigInt(MOST_ORDERS)) return { notes, tooMany: String(orders) };
   const classes = core.classes(spec, name);
   return typeof classes === 'string' ? { notes, classes } : { refused: classes };
 }

@@ -5,7 +5,7 @@ pub(crate) const FRONT: &[u8] = br#"<!doctype html>
 <html lang="en">
 <head>
 <meta charset="utf-8">
-<meta http-equiv="Content-Security-Policy" content="default-src 'none'; style-src 'sha256-YEVDhIYea/qvrNTK0fPxoYR0p7T8+yAAsWAg/O3YZOI='; script-src 'sha256-hdZbRS6jI+ODwA1fmrds9eEMnzQitOZO1iMUfA83Pwk='; base-uri 'none'; form-action 'none'">
+<meta http-equiv="Content-Security-Policy" content="default-src 'none'; style-src 'sha256-ZyH/uHs5uTj3x9FWRhmesaNOWz0Pzh6aoNldvEN8Uu4='; script-src 'sha256-bNN20HHDnrWcZKv8d6kHdHZ/prP3nekjvnfJZCHKml0='; base-uri 'none'; form-action 'none'">
 <meta name="viewport" content="width=device-width, initial-scale=1">
 <title>isofarm classes</title>
 <style>"#;
@@ -85,7 +85,6 @@ main { padding: 0 24px 24px; }
 .card > .top .space { flex: 1; }
 .card > .foot { padding: 8px 14px; border-top: 1px solid var(--line); color: var(--muted); font-size: 12px; }
 .card > .absent { padding: 12px 14px; }
-details > p { max-width: 60ch; max-height: 12em; overflow: auto; }
 
 /* the classes */
 .scroll { overflow: auto; max-height: 46vh; min-height: 120px; }
@@ -281,7 +280,7 @@ pub(crate) const MIDDLE: &[u8] = br#"</style>
 <p class="foot" id="classes-key"><span id="alike"></span> Marks behind a step: <b>:</b> waits, <b>!</b> fails, <b>-</b> is not sent. Not serial: no order that runs one session behind the other answers so. A bar is as long as its class is large beside the largest one.</p>
 </section>
 <section class="card drawn" aria-labelledby="timeline-title">
-<div class="top"><h2 id="timeline-title"><span id="what"></span></h2><span class="muted" id="where"></span><span class="space"></span><span class="muted" id="ranks"></span></div>
+<div class="top"><h2 id="timeline-title"><span id="what"></span></h2><span class="muted" id="where"></span></div>
 <p class="absent" id="absent" hidden></p>
 <div class="lanes" tabindex="-1">
 <table class="timeline" id="timeline" role="grid" aria-labelledby="timeline-title" aria-describedby="timeline-key">
@@ -332,9 +331,8 @@ const LETTERS = {
 };
 const KEYWORDS = ['notices', 'permutation', 'session', 'setup', 'step', 'teardown'];
 const OPEN = { in: ' is in a transaction', failed: ' is in a failed block', waits: ' waits' };
-// Rows of classes that are drawn, and that are drawn before others may go on; ranges of ranks that are told at once; rows of a
-// SELECT that a cell shows; rows of a table.
-const MOST_ROWS = 1000, ROWS_AT_ONCE = 100, MOST_RANGES = 8, MOST_SHOWN = 6, MOST_LEFT = 50;
+// Rows of classes that are drawn, and that are drawn before others may go on; rows of a SELECT that a cell shows; rows of a table.
+const MOST_ROWS = 1000, ROWS_AT_ONCE = 100, MOST_SHOWN = 6, MOST_LEFT = 50;
 // Characters that show nothing or steer.
 const HIDDEN = new RegExp('[\\0-\\x1f\\x7f-\\x9f\\xad\\u034f\\u061c\\u115f\\u1160\\u17b4\\u17b5\\u180b-\\u180f\\u200b-\\u200f\\u2028-\\u202e\\u2060-\\u206f'
   + '\\u3164\\ufe00-\\ufe0f\\ufeff\\uffa0\\ufff0-\\ufffb\\u{1bca0}-\\u{1bca3}\\u{1d173}-\\u{1d17a}\\u{e0000}-\\u{e0fff}]', 'gu');
@@ -354,10 +352,13 @@ function h(tag, props, ...children) {
 }
 const number = new Intl.NumberFormat('en').format;
 const plural = (count, word, words) => `${number(count)} ${Number(count) === 1 ? word : words || `${word}s`}`;
-const share = (count, all) => `${(Math.max(Math.floor(count * 1000 / all), count ? 1 : 0) / 10 || 0).toFixed(1)} %`;
+const share = (count, all) => `${(Math.max(all ? Number(BigInt(count) * 1000n / BigInt(all)) : 0, count ? 1 : 0) / 10).toFixed(1)} %`;
 const spaced = (parts, by) => parts.flatMap((part, at) => at ? [by, part] : [part]);
 const listed = parts => parts.flatMap((part, at) => at ? [at === parts.length - 1 ? ' and ' : ', ', part] : [part]);
 const visible = text => text.replace(HIDDEN, one => `\\u{${one.codePointAt(0).toString(16)}}`);
+// What a text of JSON says. A number of so many digits that it would not stand there exactly is a BigInt.
+const exact = text => text.replace(/"(?:[^"\\]|\\.)*"|\d{16,}/g, one => one[0] === '"' ? one : `{"digits":"${one}"}`);
+const parsed = text => JSON.parse(/[[:,]\d{16}/.test(text) ? exact(text) : text, (_key, one) => one && one.digits ? BigInt(one.digits) : one);
 // A text of the spec. It is isolated, so that its direction of writing leaves the words around it in their places.
 const name = text => h('bdi', null, visible(text));
 const isPlain = text => /^[A-Za-z_\u0080-\u{10ffff}][\w$\u0080-\u{10ffff}]*$/u.test(text) && !KEYWORDS.includes(text);
@@ -409,7 +410,8 @@ const seenText = lines => lines.filter(line => !line.startsWith('rows ') || line
 
 function placesAsked() {
   const places = data.classes.map((_one, at) => at).filter(at => isAsked(data.classes[at]));
-  return by === 'size' ? places.sort((a, b) => data.classes[b].orders - data.classes[a].orders || a - b) : places;
+  const size = at => data.classes[at].orders;
+  return by === 'size' ? places.sort((a, b) => (size(a) < size(b)) - (size(a) > size(b)) || a - b) : places;
 }
 
 function drawFilters() {
@@ -436,7 +438,7 @@ function press(letter, state) {
 function rowOf(at, most) {
   const one = data.classes[at], tags = tagsOf(one);
   const bar = h('i');
-  bar.style.width = `${Math.round(one.orders / most * 1000) / 10}%`;
+  bar.style.width = `${Math.round(Number(one.orders) / Number(most) * 1000) / 10}%`;
   return h('tr', { role: 'row', id: `class-${at}`, 'data-at': at, tabindex: at === picked ? 0 : -1, 'aria-selected': String(at === picked), onclick: () => pick(at) },
     h('td', { role: 'gridcell', class: 'number' }, String(at + 1)),
     h('td', { role: 'gridcell' }, h('div', { class: 'order' }, orderShown(one)),
@@ -454,8 +456,8 @@ function drawRows(places, most, count) {
 }
 
 function drawClasses() {
-  const places = placesAsked(), most = data.classes.reduce((most, one) => Math.max(most, one.orders), 1);
-  const orders = places.reduce((sum, at) => sum + data.classes[at].orders, 0);
+  const places = placesAsked(), most = data.classes.reduce((most, one) => one.orders > most ? one.orders : most, 1);
+  const orders = places.reduce((sum, at) => sum + BigInt(data.classes[at].orders), 0n);
   if (places.length && !places.includes(picked)) picked = places[0];
   drawnRows = Math.max(drawnRows, places.indexOf(picked) + 1);
   const all = classesWord(data.classes.length);
@@ -573,15 +575,8 @@ function drawOrder() {
   $('absent').hidden = true;
   $('what').textContent = one ? `${isByAnswers() ? 'Answer' : 'Class'} ${number(at + 1)} of ${number(data.classes.length)}` : 'No class';
   $('where').textContent = one ? (one.orders === 1 ? `rank ${one.least}, its only order` : `rank ${one.least}, the least of ${plural(one.orders, 'order')}`) : '';
-  $('ranks').replaceChildren(...(one && one.ranks ? ranksShown(one.ranks) : []));
   inspect(null);
   if (one) source(at, found => { if (at === picked && one === data.classes[at]) drawFound(one, found); });
-}
-
-function ranksShown(ranges) {
-  const texts = ranges.map(([first, last]) => first === last ? `${first}` : `${first} to ${last}`), more = texts.length - MOST_RANGES;
-  const front = `Ranks ${texts.slice(0, MOST_RANGES).join(', ')}`;
-  return more > 0 ? [front, h('details', null, h('summary', null, `and ${plural(more, 'range')} more`), h('p', null, texts.slice(MOST_RANGES).join(', ')))] : [front];
 }
 
 // The words of a command, for a shell.
@@ -840,11 +835,11 @@ $('theme').addEventListener('click', () => {
 });
 
 if ($('classes')) {
-  const given = JSON.parse($('classes').textContent), orders = document.querySelectorAll('script.order');
+  const given = parsed($('classes').textContent), orders = document.querySelectorAll('script.order');
   data = given;
   $('name').replaceChildren(name(given.name));
   document.title = `${visible(given.name)}: ${plural(given.orders, 'order')}, ${classesWord(given.classes.length)}`;
-  show(given, (at, tell) => tell(at < orders.length ? JSON.parse(orders[at].textContent) : null), linkedClass());
+  show(given, (at, tell) => tell(at < orders.length ? parsed(orders[at].textContent) : null), linkedClass());
   addEventListener('hashchange', () => { if (linkedClass() >= 0 && linkedClass() !== picked) pick(linkedClass(), true); });
 }
 "#;
