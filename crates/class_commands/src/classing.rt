@@ -181,10 +181,10 @@ fn serial_of(alloc: Global, spec: &Spec, tables: &[Table]) -> Result<Different, 
     ensures answers { IfOk result (AreSerialOf tables.now spec.now.run) }
     ensures refused { IfErr result (IsNotCounted spec.now) }
 {
-    if spec.has_lines() {
-        return Ok(Different::new(alloc));
+    match spec.shape() {
+        Some(_) => serial_answers(alloc, spec, tables),
+        None => Ok(Different::new(alloc)),
     }
-    serial_answers(alloc, spec, tables)
 }
 
 /// Writes the classes of the orders that are asked for.

@@ -1,6 +1,6 @@
 //! The states in which the orders of a spec end, counted.
 
-ghost use Rattle.std.specs.Prelude.{◌≡◌, ◌<◌, ◌^◌, [], IfOk, IsErrOf};
+ghost use Rattle.std.specs.Prelude.{◌≡◌, ◌<◌, ◌≤◌, ◌^◌, [], IfOk, IsErrOf};
 ghost use Rattle.bound_specs.specs.Spec.{queues_of};
 ghost use Rattle.session_steps.specs.Refused.{IsRefusedBy};
 ghost use Rattle.session_steps.specs.declared.error.StartError.{StartError};
@@ -15,6 +15,7 @@ ghost use Rattle.schedule_counts.specs.States.{AreFinalStates, AreOver, AreState
 use crate::laws::sums_are_exact;
 use crate::place::Place;
 use crate::search::Search;
+use crate::watch::{Watch, Watched};
 use binding_model::Table;
 use bound_specs::Spec;
 use different_shows::Different;
@@ -89,33 +90,33 @@ const MOST_WORLDS: usize = 0xffff_ffff;
 
 /// Counts the orders of a spec without permutation lines, with these tables, by the states in which they end. Worlds are noted while those that were noted take
 /// fewer bytes than `room`.
-pub fn final_states<'a>(
+pub fn final_states<'a, W: Watch>(
     alloc: Global,
     spec: &'a Spec,
     tables: &'a [Table],
     kind: Kind,
     room: usize,
+    watch: &'a W,
 ) -> Result<FinalStates, StatesError>
     requires { spec.now.run.lines ≡ [] }
     ensures counted { IfOk result (λ found. (w : World) × (start spec.now.run ≡ Started w) × AreFinalStates kind tables.now spec.now.run w found.shows found.states.items × AreClasses kind tables.now spec.now.run w found.shows found.states.items) }
     ensures refused { (error : StartError) → IsErrOf result (StatesError.Start error) → IsRefusedBy error (start spec.now.run) }
 {
-    let mut search = started(alloc, spec, tables, kind, room)?;
+    let search = started(alloc, spec, tables, kind, room)?;
+    let mut watched = Watched {
+        search,
+        watch,
+        steps: 0,
+    };
     no_order_leads_back();
     orders_are_few();
     orders_are_words();
     sums_are_exact();
-    match finals(alloc, &mut search, MOST_WORLDS) {
-        Ok(finals) => {
-            let states = states_of(alloc, &search, finals.as_slice())?;
-            Ok(FinalStates {
-                shows: search.shown,
-                states,
-            })
-        }
+    match finals(alloc, &mut watched, MOST_WORLDS) {
+        Ok(finals) => Ok(found(alloc, watched.search, finals.as_slice())?),
         Err(error) => {
-            let noted = search.noted.len() as u64;
-            Err(states_error(error, search.is_full(), noted))
+            let search = &watched.search;
+            Err(states_error(error, search.is_full(), search.noted()))
         }
     }
 }
@@ -133,8 +134,10 @@ fn started<'a>(
     ensures file { IfOk result (λ search. search.file ≡ spec.now) }
     ensures tables { IfOk result (λ search. search.tables ≡ tables.now) }
     ensures few { IfOk result (λ search. permutations (queues_of spec.now.run) < 2 ^ 63) }
+    ensures sessions { spec.now.run.sessions ≤ 8 }
     ensures refused { (error : StartError) → IsErrOf result (StatesError.Start error) → IsRefusedBy error (start spec.now.run) }
 {
+    let _sessions = spec.sessions(); // for the proof
     let Some(shape) = spec.shape() else {
         return Err(StatesError::Memory);
     };
@@ -159,6 +162,18 @@ fn shared(alloc: Global, numbers: SpecNumbers) -> Result<Arc<SpecNumbers>, Alloc
     ensures { IfOk result (λ shared. shared.value ≡ numbers) }
 {
     Ok(Arc::new(alloc, numbers)?)
+}
+
+/// The states of final nodes, and what they show.
+fn found(alloc: Global, search: Search<'_>, finals: &[Final]) -> Result<FinalStates, AllocError>
+    requires { AreOver search.seen finals.now }
+    ensures { IfOk result (λ found. AreStatesOf search.entry.tables search.entry.seen found.shows finals.now found.states.items) }
+{
+    let states = states_of(alloc, &search, finals)?;
+    Ok(FinalStates {
+        shows: search.shown,
+        states,
+    })
 }
 
 /// The states of final nodes.

@@ -7,6 +7,8 @@ mod laws;
 mod machine;
 mod place;
 mod search;
+mod watch;
 
 pub use counting::{FinalState, FinalStates, StatesError, final_states};
 pub use laws::sums_are_exact;
+pub use watch::{Unwatched, Watch};

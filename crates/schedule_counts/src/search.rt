@@ -225,6 +225,11 @@ impl Search<'_> {
         self.noted.get(number)?.shows
     }
 
+    /// How many points were noted.
+    pub(crate) fn noted(&self) -> u64 {
+        self.noted.len() as u64
+    }
+
     /// Whether the worlds that were noted take the room that there is.
     pub(crate) fn is_full(&self) -> bool {
         self.machine.noted_bytes() >= self.room
