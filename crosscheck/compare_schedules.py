@@ -6,8 +6,8 @@ Of the spec of each seed schedules and permutations are counted by layers of sta
 endings, their numbers of orders and their least ranks are the same, and so are the results of serial orders. By layers also holds what has to hold of
 both: the permutations of which every step is sent are the schedules that have all steps. The first order of a class is led from moment to moment, and
 a filter and its opposite have all orders. PROGRAM prints the classes of all permutations as JSON; they have the same least ranks, numbers of orders,
-transcripts, rows left, sessions that have not ended, and letters. Before the seeds come the pages of `schedules/`, which were worked out by
-hand. KIND is one of those of `compare_classes.py`, or `all`. The last lines count what was compared.
+transcripts, rows left, sessions that have not ended, and letters; so have those of two specs with many more permutations. Before the seeds come the
+pages of `schedules/`, which were worked out by hand. KIND is one of those of `compare_classes.py`, or `all`. The last lines count what was compared.
 """
 
 import json
@@ -35,6 +35,8 @@ from schedules import one_by_one, serial_results_one_by_one
 WORKED = Path(__file__).resolve().parent / "schedules"
 # Of so many permutations all are run one by one, and of so many the program counts those of a spec. A line is run alone.
 MOST_ONE_BY_ONE, MOST_OF_PROGRAM = 3_000, 300_000
+# Specs of `schedules/` with 756,756 and 63,063,000 permutations, of which the program counts the classes besides.
+LARGE = ["clashing", "transfers"]
 # Of so many sessions all serial orders are led from moment to moment.
 CLASSES_LOOKED_AT, FILTERS_LOOKED_AT, MOST_SESSIONS = 4, 2, 4
 
@@ -248,9 +250,17 @@ def wrong_of(program, path, text, seed, counts):
         yield from wrong_beside(program, path, text, every)
 
 
+def wrong_of_large(program, folder):
+    """What the program tells otherwise of specs that have too many permutations to run them one by one."""
+    for name in LARGE:
+        text = (WORKED / f"{name}.spec").read_bytes()
+        yield from (f"{name}: {one}" for one in wrong_beside(program, f"{folder}/{name}.spec", text, OrderClasses(bound(text), True)))
+
+
 def main(program, kind, first, seeds):
     counts, wrong = Counter(), [f"by hand: {one}" for one in wrong_by_hand()]
     with TemporaryDirectory() as folder:
+        wrong += wrong_of_large(program, folder) if program != ALONE else []
         for one in [*CLASS_KINDS] if kind == ALL else [kind]:
             for name, seed, text in specs_made(one, first, seeds):
                 wrong += [f"{one}, {name}: {told}" for told in wrong_of(program, f"{folder}/made.spec", text, seed, counts)]
