@@ -33,7 +33,7 @@ get-inside [] n x e = absurd (cc)
 get-inside (y ∷ xs) zero x e = omega arith
 get-inside (y ∷ xs) (suc n) x e = (let rec = get-inside xs n x e in omega arith)
 
-get-there : {T : Type 0} (xs : List T) (n : ℕ) → n < length xs → (x : T) × (slice_get xs n ≡ Some x)
+pub get-there : {T : Type 0} (xs : List T) (n : ℕ) → n < length xs → (x : T) × (slice_get xs n ≡ Some x)
 get-there [] n lt = absurd (omega arith)
 get-there (y ∷ xs) zero lt = (y, refl)
 get-there (y ∷ xs) (suc n) lt = get-there xs n (omega arith)
@@ -48,7 +48,7 @@ get-has [] n t e = absurd (cc)
 get-has (u ∷ ts) zero t e = inl (let f : Some u ≡ Some t = e in let g : u ≡ t = cc in sym g)
 get-has (u ∷ ts) (suc n) t e = inr (get-has ts n t e)
 
-same-some : {T : Type 0} (x y : T) → Some x ≡ Some y → x ≡ y
+pub same-some : {T : Type 0} (x y : T) → Some x ≡ Some y → x ≡ y
 same-some x y e = cc
 
 all-at : (P : Tally → Type 0) (ts : List Tally) → All P ts → (t : Tally) → Has t ts → P t

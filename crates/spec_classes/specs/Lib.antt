@@ -3,3 +3,4 @@ pub mod Showing
 pub mod Told
 pub mod Tallies
 pub mod Serial
+pub mod Leading
