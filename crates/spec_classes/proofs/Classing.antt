@@ -1,7 +1,7 @@
 -- Classes by tallies are the classes of all orders.
-use Rattle.std.proofs.Common.{◌≡◌, refl, sym, ap, ◌∙◌, subst, ℕ, zero, suc, ◌+◌, ◌<◌, ◌≤◌, ◌==◌, ◌⊎◌, inl, inr, ⊎_elim, Bool, true, false, cond, nat_lt, Option, None, Some, List, [], ◌∷◌, ◌++◌, length, get_or, take, slice_get, sum_by, All, ◌^◌, arith, eqb-true, eq-eqb}
+use Rattle.std.proofs.Common.{◌≡◌, refl, sym, ap, ◌∙◌, subst, ℕ, zero, suc, ◌+◌, ◌<◌, ◌≤◌, ◌==◌, ◌⊎◌, inl, inr, Bool, true, false, cond, nat_lt, Some, List, [], ◌∷◌, ◌++◌, length, get_or, take, slice_get, sum_by, All, arith, eqb-true, eq-eqb}
 use Rattle.std.specs.List.{filter}
-use Rattle.std.specs.List.Sorted.{IsPermutation, IsNonDecreasingBy}
+use Rattle.std.specs.List.Sorted.{IsNonDecreasingBy}
 use Rattle.std.proofs.lemmas.Bool.{cases_eq, cases_lt, ltb-true, ltb-false}
 use Rattle.std.proofs.lemmas.List.Elements.{All-nil, All-cons, All-head, All-tail}
 use Rattle.std.proofs.lemmas.List.Sums.{sum_by-cons}
@@ -17,7 +17,6 @@ use Rattle.order_classes.specs.Shows.{shows_of_line}
 use Rattle.order_classes.specs.Numbers.{IsNumberOf}
 use Rattle.different_shows.specs.Different.{AreDifferent}
 use Rattle.schedule_counts.specs.declared.counting.FinalState.{FinalState}
-use Rattle.schedule_counts.specs.Classes.{count_of, total_count}
 use Rattle.spec_classes.specs.declared.tallies.Tally.{Tally}
 use Rattle.spec_classes.specs.declared.classes.OrderClass.{OrderClass}
 use Rattle.spec_classes.specs.Classes as classes

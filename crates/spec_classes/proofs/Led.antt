@@ -1,17 +1,15 @@
 -- The schedule of a rank is what may come of the permutation of that rank.
-use Rattle.std.proofs.Common.{◌≡◌, refl, sym, ap, ◌∙◌, subst, ℕ, zero, suc, ◌+◌, ◌<◌, ◌≤◌, ◌⊎◌, inl, inr, ⊎_elim, Bool, true, false, not, cond, List, [], ◌∷◌, ◌++◌, length, length-append, append_assoc, get_or, All, arith}
+use Rattle.std.proofs.Common.{◌≡◌, refl, sym, ap, ◌∙◌, subst, ℕ, ◌+◌, ◌<◌, inl, inr, ⊎_elim, Bool, true, false, not, cond, List, [], ◌∷◌, ◌++◌, length, length-append, append_assoc, All, arith}
 use Rattle.std.proofs.lemmas.Bool.{cases_eq}
 use Rattle.std.proofs.lemmas.List.{append-nil}
 use Rattle.std.proofs.lemmas.List.Elements.{All-head, All-tail}
-use mathlib.Core.List.{IsPrefix}
 use Rattle.lock_queues.specs.Locks.{waits_now}
 use Rattle.path_counts.specs.Paths.{Has}
 use Rattle.bound_specs.specs.Spec.{Spec, Step, Queues, queues_of, line_by, line_of, ranks, ranks_by}
 use Rattle.machine_model.specs.World.{World, send, send_all}
 use Rattle.machine_model.specs.Start.{Started, start}
-use Rattle.spec_schedules.specs.declared.kind.Kind.{Kind}
 use Rattle.spec_schedules.specs.declared.kind.Kind.TheVariants.{Schedules, Permutations}
-use Rattle.spec_schedules.specs.Schedules.{session_of, own_steps, may_come, EachMayCome, IsOrder, IsRank, permutation_of, permutations}
+use Rattle.spec_schedules.specs.Schedules.{session_of, own_steps, EachMayCome, IsOrder}
 use Rattle.spec_schedules.specs.Ranked.{IsOrderAt, IsOrderBy}
 use Rattle.spec_schedules.specs.Laws.{PermutationsAreRanked}
 use Rattle.spec_schedules.proofs.Letters.{own-here, own-other}

@@ -1,5 +1,5 @@
 -- What the lines of a spec show tells of all its orders.
-use Rattle.std.proofs.Common.{◌≡◌, ◌≢◌, ◌↔◌, refl, sym, ap, ◌∙◌, subst, ℕ, zero, suc, ◌+◌, ◌<◌, ◌≤◌, ◌==◌, ◌⊎◌, inl, inr, ⊎_elim, Bool, true, false, cond, Option, Some, List, [], ◌∷◌, ◌++◌, length, get_or, slice_get, length-append, ◌^◌, arith, eqb-true, eq-eqb}
+use Rattle.std.proofs.Common.{◌≡◌, ◌≢◌, ◌↔◌, refl, sym, ap, ◌∙◌, subst, ℕ, zero, suc, ◌+◌, ◌<◌, ◌≤◌, ◌==◌, ◌⊎◌, inl, inr, ⊎_elim, Bool, true, false, cond, Some, List, [], ◌∷◌, ◌++◌, length, get_or, slice_get, length-append, ◌^◌, arith, eqb-true, eq-eqb}
 use Rattle.std.proofs.lemmas.List.{append-nil}
 use mathlib.Core.List.{IsPrefix}
 use Rattle.lock_queues.specs.Reasons.{Among}
@@ -10,7 +10,7 @@ use Rattle.spec_schedules.specs.declared.kind.Kind.{Kind}
 use Rattle.spec_schedules.specs.Ranked.{IsOrderAt, IsOrderBy}
 use Rattle.spec_schedules.specs.Laws.{OrdersAreAlone}
 use Rattle.order_classes.specs.declared.shows.Shows.{Shows}
-use Rattle.order_classes.specs.Numbers.{IsNumberOf, RiseFrom}
+use Rattle.order_classes.specs.Numbers.{RiseFrom}
 use Rattle.different_shows.specs.Different.{AreDifferent, HasNumber}
 use Rattle.schedule_counts.specs.declared.counting.FinalState.{FinalState}
 use Rattle.schedule_counts.specs.Classes.{count_of, total_count}
@@ -122,15 +122,15 @@ module _ (kind : Kind) (tables : List Table) (run : Spec) (shown : List Shows) (
       ranks = places n 0 states;
       rise = places-rise n 0 states;
       has = λ r. (
-          (λ m. (let x = in-places n 0 states r m in
-          let is = are.each x.0 x.2 x.3 in
-          let shows : is.shows ≡ s = same-some is.shows s (sym is.at ∙ ap (λ k. slice_get shown k) x.4 ∙ at) in
-          let far = x.1 in
-          let rank : x.0 ≡ r = omega arith in
-          subst (λ k. ShowsAt kind tables run k s) rank (subst (λ t. ShowsAt kind tables run x.0 t) shows is.does))),
-          (λ so. (let x = state-at r s so in
-          let number : x.state.shows ≡ n = differ x.state.shows n s x.shows at in
-          subst (λ k. Among k (places n 0 states)) (omega arith) (to-places n 0 states r x.state x.at number))),
+        (λ m. (let x = in-places n 0 states r m in
+            let is = are.each x.0 x.2 x.3 in
+            let shows : is.shows ≡ s = same-some is.shows s (sym is.at ∙ ap (λ k. slice_get shown k) x.4 ∙ at) in
+            let far = x.1 in
+            let rank : x.0 ≡ r = omega arith in
+            subst (λ k. ShowsAt kind tables run k s) rank (subst (λ t. ShowsAt kind tables run x.0 t) shows is.does))),
+        (λ so. (let x = state-at r s so in
+            let number : x.state.shows ≡ n = differ x.state.shows n s x.shows at in
+            subst (λ k. Among k (places n 0 states)) (omega arith) (to-places n 0 states r x.state x.at number))),
       );
       count = places-count n 0 states one-each;
     };

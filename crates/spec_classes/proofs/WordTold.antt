@@ -1,5 +1,5 @@
 -- The states in which orders end tell of all orders.
-use Rattle.std.proofs.Common.{◌≡◌, refl, sym, ap, ◌∙◌, subst, ℕ, suc, ◌+◌, ◌<◌, ◌≤◌, ◌⊎◌, inl, inr, ⊎_elim, Option, None, Some, List, [], ◌∷◌, length, slice_get, arith}
+use Rattle.std.proofs.Common.{◌≡◌, refl, sym, ap, ◌∙◌, subst, ℕ, suc, ◌<◌, inl, inr, ⊎_elim, None, Some, List, [], ◌∷◌, length, slice_get, arith}
 use Rattle.std.specs.Prelude.{option_map}
 use Rattle.lock_queues.specs.Reasons.{Among}
 use Rattle.path_counts.specs.Paths.{Has, AreApart}
@@ -16,7 +16,7 @@ use Rattle.order_classes.specs.Shows.{shows_in, shows_of_line}
 use Rattle.order_classes.specs.Numbers.{IsNumberOf}
 use Rattle.different_shows.specs.Different.{AreDifferent}
 use Rattle.schedule_counts.specs.declared.counting.FinalState.{FinalState}
-use Rattle.schedule_counts.specs.Classes.{count_of, AreClasses}
+use Rattle.schedule_counts.specs.Classes.{AreClasses}
 use Rattle.schedule_counts.specs.States.{AreFinalStates}
 use Rattle.spec_classes.specs.Classes.{ShowsAt}
 use Rattle.spec_classes.specs.Told.{AreTold}
@@ -50,8 +50,8 @@ module _ (kind : Kind) (tables : List Table) (run : Spec) (w : World) (starts : 
         ranks = own.0 ∷ rest.ranks;
         once = (
           (λ m. (let x = rest.each own.0 m in
-          let same : o ≡ x.0 = unique kind run w o x.0 own.0 (order o (inl refl)) (order x.0 (inr x.1)) own.1 x.2 in
-          apart.0 (subst (λ ks. Has ks os) (sym same) x.1))),
+              let same : o ≡ x.0 = unique kind run w o x.0 own.0 (order o (inl refl)) (order x.0 (inr x.1)) own.1 x.2 in
+              apart.0 (subst (λ ks. Has ks os) (sym same) x.1))),
           rest.once,
         );
         long = ap suc rest.long;

@@ -1,4 +1,4 @@
-use Rattle.std.proofs.Common.{◌≡◌, ◌+◌, ◌++◌, sym, ap, ◌∙◌, suc, add-one, drop, drop-cons}
+use Rattle.std.proofs.Common.{◌++◌, sym, ap, ◌∙◌, suc, add-one, drop, drop-cons}
 use Rattle.spec_classes.specs.Leading.{led}
 use Rattle.spec_classes.proofs.leading.led_by.Goals as goal
 

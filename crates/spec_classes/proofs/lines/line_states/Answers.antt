@@ -1,5 +1,4 @@
-use Rattle.std.proofs.Common.{◌≡◌, ◌+◌, ◌++◌, ◌∷◌, [], sym, ap, ◌∙◌, subst, length, arith}
-use Rattle.schedule_counts.specs.declared.counting.FinalState.{FinalState}
+use Rattle.std.proofs.Common.{◌+◌, ◌++◌, ◌∷◌, [], sym, ap, ◌∙◌, subst, arith}
 use Rattle.spec_classes.specs.Told.{AreOfLines}
 use Rattle.spec_classes.proofs.LineTold.{lines-next, no-lines, ranks-lines}
 use Rattle.spec_classes.proofs.lines.line_states.Goals as goal
