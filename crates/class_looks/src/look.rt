@@ -49,7 +49,7 @@ impl Look {
         left: &[Items<(Value, Row)>],
     ) -> Result<Vec<Event>, AllocError>
         ensures told { IfOk result (λ events. events.items ≡ told_by (sees self.now left.now)) }
-        // So it is what the SELECT tells in the world of each rank that leaves these rows.
+        // So it is what the SELECT tells in the world behind each line that leaves these rows.
         ensures lines { IfOk result (λ events. SeesLines self.now left.now events.items) }
     {
         seen_by(alloc, &self.statement, left)

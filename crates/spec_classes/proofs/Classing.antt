@@ -1,7 +1,7 @@
 -- Classes by tallies are the classes of all orders.
-use Rattle.std.proofs.Common.{◌≡◌, refl, sym, ap, ◌∙◌, subst, ℕ, zero, suc, ◌+◌, ◌<◌, ◌≤◌, ◌==◌, ◌⊎◌, inl, inr, ⊎_elim, Bool, true, false, cond, nat_lt, Option, None, Some, List, [], ◌∷◌, ◌++◌, length, get_or, take, slice_get, sum_by, All, ◌^◌, arith, eqb-true, eq-eqb}
+use Rattle.std.proofs.Common.{◌≡◌, refl, sym, ap, ◌∙◌, subst, ℕ, zero, suc, ◌+◌, ◌<◌, ◌≤◌, ◌==◌, ◌⊎◌, inl, inr, Bool, true, false, cond, nat_lt, Some, List, [], ◌∷◌, ◌++◌, length, get_or, take, slice_get, sum_by, All, arith, eqb-true, eq-eqb}
 use Rattle.std.specs.List.{filter}
-use Rattle.std.specs.List.Sorted.{IsPermutation, IsNonDecreasingBy}
+use Rattle.std.specs.List.Sorted.{IsNonDecreasingBy}
 use Rattle.std.proofs.lemmas.Bool.{cases_eq, cases_lt, ltb-true, ltb-false}
 use Rattle.std.proofs.lemmas.List.Elements.{All-nil, All-cons, All-head, All-tail}
 use Rattle.std.proofs.lemmas.List.Sums.{sum_by-cons}
@@ -17,7 +17,6 @@ use Rattle.order_classes.specs.Shows.{shows_of_line}
 use Rattle.order_classes.specs.Numbers.{IsNumberOf}
 use Rattle.different_shows.specs.Different.{AreDifferent}
 use Rattle.schedule_counts.specs.declared.counting.FinalState.{FinalState}
-use Rattle.schedule_counts.specs.Classes.{count_of, total_count}
 use Rattle.spec_classes.specs.declared.tallies.Tally.{Tally}
 use Rattle.spec_classes.specs.declared.classes.OrderClass.{OrderClass}
 use Rattle.spec_classes.specs.Classes as classes
@@ -33,7 +32,7 @@ get-inside [] n x e = absurd (cc)
 get-inside (y ∷ xs) zero x e = omega arith
 get-inside (y ∷ xs) (suc n) x e = (let rec = get-inside xs n x e in omega arith)
 
-get-there : {T : Type 0} (xs : List T) (n : ℕ) → n < length xs → (x : T) × (slice_get xs n ≡ Some x)
+pub get-there : {T : Type 0} (xs : List T) (n : ℕ) → n < length xs → (x : T) × (slice_get xs n ≡ Some x)
 get-there [] n lt = absurd (omega arith)
 get-there (y ∷ xs) zero lt = (y, refl)
 get-there (y ∷ xs) (suc n) lt = get-there xs n (omega arith)
@@ -48,7 +47,7 @@ get-has [] n t e = absurd (cc)
 get-has (u ∷ ts) zero t e = inl (let f : Some u ≡ Some t = e in let g : u ≡ t = cc in sym g)
 get-has (u ∷ ts) (suc n) t e = inr (get-has ts n t e)
 
-same-some : {T : Type 0} (x y : T) → Some x ≡ Some y → x ≡ y
+pub same-some : {T : Type 0} (x y : T) → Some x ≡ Some y → x ≡ y
 same-some x y e = cc
 
 all-at : (P : Tally → Type 0) (ts : List Tally) → All P ts → (t : Tally) → Has t ts → P t

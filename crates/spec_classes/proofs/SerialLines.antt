@@ -1,6 +1,6 @@
 -- The line of a serial order is that of its rank.
 use Rattle.std.proofs.Common.{◌≡◌, sym, ap, ◌∙◌, subst, ℕ, ◌<◌, Some, List, [], length, get_or}
-use Rattle.perm_ranks.specs.Words.{all_words, word_at, place_of}
+use Rattle.perm_ranks.specs.Words.{all_words, place_of}
 use Rattle.perm_ranks.proofs.WordLemmas.{place-is}
 use Rattle.bound_specs.specs.Spec.{Spec, counts_of, queues_of, line, line_by, ranks_by, ranks, line_of}
 use Rattle.order_classes.specs.Letters.{serial_line, session_orders, whole_word}

@@ -1,19 +1,17 @@
 -- Words that have the letters of sessions one behind the other have ranks.
 use Rattle.std.proofs.Common.{◌≡◌, ◌≢◌, refl, sym, ap, ◌∙◌, subst, ℕ, zero, suc, ◌+◌, ◌^◌, ◌<◌, ◌≤◌, ◌==◌, ◌||◌, nat_lt, nat_le, Bool, false, cond, Some, Result, Ok, Err, List, [], ◌∷◌, ◌++◌, length, set, take, get_or}
-use Rattle.std.proofs.Common.{replicate, ◌⊎◌, inl, inr, ⊎_elim, arith, get_or-set_same, get_or-set_other, length-append}
-use Rattle.std.proofs.Math.ListN.{get_or-append}
-use Rattle.std.proofs.Math.Seq.{get_or-append_seam}
+use Rattle.std.proofs.Common.{replicate, ◌⊎◌, inl, inr, ⊎_elim, arith, get_or-set_same, get_or-set_other}
 use Rattle.std.proofs.lemmas.List.{take-replicate}
 use Rattle.std.proofs.lemmas.Bool.{le-ltb, leb-true, ne_eqb, false_from_ne_true}
 use Rattle.lock_queues.specs.Reasons.{Among}
-use Rattle.perm_ranks.specs.Words.{Word, total, all_words, word_at, place_of}
+use Rattle.perm_ranks.specs.Words.{Word, total, all_words, place_of}
 use Rattle.perm_ranks.specs.Shape.{has_idle, shape_of}
 use Rattle.perm_ranks.specs.declared.TheConstants.{MAX_SESSIONS, MAX_STEPS, WORDS_LIMIT}
 use Rattle.perm_ranks.specs.declared.error.ShapeError.{ShapeError}
 use Rattle.perm_ranks.specs.declared.error.ShapeError.TheVariants.{Empty, TooManySessions, TooManySteps, TooManyRanks}
 use Rattle.perm_ranks.proofs.CountLemmas.{length-all_words-le}
-use Rattle.perm_ranks.proofs.WordLemmas.{Takes, done, takes, words-take, takes-in, takes-length, in-place, place-is}
-use Rattle.bound_specs.specs.Spec.{Step, Spec, queues_from, line, line_by, ranks_by, counts_of, queues_of}
+use Rattle.perm_ranks.proofs.WordLemmas.{Takes, done, takes, words-take, takes-in, takes-length, in-place}
+use Rattle.bound_specs.specs.Spec.{Step, Spec, queues_from, counts_of, queues_of}
 use Rattle.order_classes.specs.Letters.{session_orders, whole_word}
 use Rattle.order_classes.proofs.Serial.{total-set, zeros, all-zero, set-length, same-here, each-among, ones-length}
 

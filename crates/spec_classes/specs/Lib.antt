@@ -3,3 +3,5 @@ pub mod Showing
 pub mod Told
 pub mod Tallies
 pub mod Serial
+pub mod Leading
+pub mod Walking

@@ -10,6 +10,7 @@ mod showing;
 mod start;
 mod tallies;
 mod telling;
+mod walking;
 mod whole_lines;
 
 pub use classes::{OrderClass, classes_of};

@@ -9,9 +9,10 @@ ghost use Rattle.schedule_counts.specs.declared.counting.StatesError.TheVariants
 ghost use Rattle.spec_classes.specs.Classes.{AreSerialAnswers};
 ghost use Rattle.spec_classes.specs.Serial.{AreWith};
 ghost use Rattle.spec_classes.specs.Showing.{AreSteps, IsAtStart};
+ghost use Rattle.spec_classes.specs.Walking.{IsBehind};
 
-use crate::showing::shown_by;
 use crate::start::started;
+use crate::walking::next_shown;
 use crate::whole_lines::{orders_of, serial_line};
 use binding_model::Table;
 use bound_specs::Spec;
@@ -48,6 +49,7 @@ fn all_answers(
     tables: &[Table],
 ) -> Result<Different, SendError>
     requires at { IsAtStart spec.now world.old }
+    requires unmarked { world.old.marked ≡ [] }
     requires words { spec.now.run.lines ≡ [] }
     ensures { IfOk result (AreSerialAnswers tables.now spec.now.run) }
 {
@@ -70,15 +72,25 @@ fn order_answers(
     orders: &Shape,
 ) -> Result<Different, SendError>
     requires at { IsAtStart spec.now world.old }
+    requires unmarked { world.old.marked ≡ [] }
     requires words { spec.now.run.lines ≡ [] }
     requires shape { shape.now ≡ counts_of (queues_of spec.now.run) }
     requires orders { orders.now ≡ replicate spec.now.run.sessions 1 }
     ensures { IfOk result (AreSerialAnswers tables.now spec.now.run) }
 {
     let mut answers = Different::new(alloc);
+    let mut sent = Vec::new(alloc);
     for number in 0..orders.count() {
         let line = serial_line(spec, shape, orders, number);
-        add_answer(alloc, world, spec, tables, line.as_slice(), &mut answers)?;
+        add_answer(
+            alloc,
+            world,
+            spec,
+            tables,
+            &mut sent,
+            line.as_slice(),
+            &mut answers,
+        )?;
     }
     Ok(answers)
 }
@@ -91,29 +103,32 @@ fn idle_answers(
     tables: &[Table],
 ) -> Result<Different, SendError>
     requires at { IsAtStart spec.now world.old }
+    requires unmarked { world.old.marked ≡ [] }
     requires none { spec.now.run.sessions ≡ 0 }
     ensures { IfOk result (AreSerialAnswers tables.now spec.now.run) }
 {
     let mut answers = Different::new(alloc);
-    add_answer(alloc, world, spec, tables, &[], &mut answers)?;
+    let mut sent = Vec::new(alloc);
+    add_answer(alloc, world, spec, tables, &mut sent, &[], &mut answers)?;
     Ok(answers)
 }
 
-/// Adds what a line answers, where it is not there.
+/// Adds what a line answers, where it is not there. The machine is behind the steps of another line.
 fn add_answer(
     alloc: Global,
     world: &mut MarkedWorld<'_>,
     spec: &Spec,
     tables: &[Table],
+    sent: &mut Vec<u8>,
     line: &[u8],
     answers: &mut Different,
 ) -> Result<(), SendError>
-    requires at { IsAtStart spec.now world.old }
+    requires at { IsBehind spec.now world.old sent.old.items }
     requires known { AreSteps spec.now.run.steps line.now }
     ensures with { OnOk result (AreWith tables.now spec.now.run line.now answers.old answers.new) }
-    ensures back { OnOk result (IsAtStart spec.now world.new) }
+    ensures there { OnOk result (IsBehind spec.now world.new sent.new.items) }
 {
-    let shows = shown_by(alloc, world, spec, tables, line)?;
+    let shows = next_shown(alloc, world, spec, tables, sent, line)?;
     let answer = answers_of(alloc, &shows)?;
     answers.number(&answer)?;
     Ok(())

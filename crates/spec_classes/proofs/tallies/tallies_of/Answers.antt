@@ -1,4 +1,4 @@
-use Rattle.std.proofs.Common.{sym, subst, ◌+◌, ◌<◌, length, arith, get_or, set, take}
+use Rattle.std.proofs.Common.{sym, subst, ◌+◌, arith, get_or, set, take}
 use Rattle.schedule_counts.specs.declared.counting.FinalState.{FinalState}
 use Rattle.spec_classes.specs.declared.tallies.Tally.{Tally}
 use Rattle.spec_classes.specs.Tallies.{AreTallies}

@@ -1,5 +1,4 @@
-use Rattle.std.proofs.Common.{◌≡◌, ◌+◌, ◌++◌, ◌∷◌, [], sym, ap, ◌∙◌, subst, take}
-use Rattle.spec_classes.specs.declared.tallies.Tally.{Tally}
+use Rattle.std.proofs.Common.{◌+◌, ◌++◌, ◌∷◌, [], sym, ap, ◌∙◌, subst, take}
 use Rattle.spec_classes.specs.Tallies.{AreToldBy}
 use Rattle.spec_classes.proofs.Classing.{told-taken}
 use Rattle.spec_classes.proofs.telling.classes_by.Goals as goal

@@ -1,7 +1,5 @@
-use Rattle.std.proofs.Common.{rules, ◌≡◌, sym, ap, ◌∙◌, subst, ℕ, ◌<◌, List, length, replicate, None, Some}
-use Rattle.bound_specs.specs.Spec.{Spec}
+use Rattle.std.proofs.Common.{rules, sym, ap, ◌∙◌, subst, ◌<◌, length, replicate}
 use Rattle.order_classes.specs.Letters.{session_orders}
-use Rattle.std.specs.Option.{IsSome}
 use Rattle.spec_classes.proofs.SerialLines.{sessions-of, serial-rank}
 use Rattle.spec_classes.proofs.whole_lines.serial_line.Goals as goal
 
