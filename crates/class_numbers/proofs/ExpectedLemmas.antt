@@ -2,11 +2,9 @@
 use Rattle.std.proofs.Common.{◌≡◌, ◌↔◌, refl, sym, ap, ◌∙◌, subst, ℕ, suc, ◌+◌, ◌<◌, ◌≤◌, Bool, true, false, cond, ◌⊎◌, inl, inr, ⊎_elim, arith}
 use Rattle.std.proofs.Common.{List, [], ◌∷◌, get_or, map, All, Option, Some, None, option_map}
 use Rattle.std.proofs.lemmas.List.Elements.{All-cons, All-head, All-nil, All-tail}
-use Rattle.lock_modes.specs.declared.value.Value.{Value}
 use Rattle.lock_queues.specs.Reasons.{Among}
 use Rattle.binding_model.specs.declared.tables.Table.{Table}
 use Rattle.bound_specs.specs.Spec.{Spec}
-use Rattle.bound_statements.specs.declared.statement.Bound.{Bound}
 use Rattle.events.specs.declared.event.Event.{Event}
 use Rattle.spec_schedules.specs.declared.kind.Kind.{Kind}
 use Rattle.spec_classes.specs.Classes.{ShowsAt}
@@ -16,7 +14,6 @@ use Rattle.order_classes.specs.declared.rows.ClassRow.{ClassRow}
 use Rattle.order_classes.specs.declared.rows.Grouping.{Grouping}
 use Rattle.order_classes.specs.declared.rows.Grouping.TheVariants as the
 use Rattle.order_classes.specs.declared.shows.Shows.{Shows}
-use Rattle.order_classes.specs.Asked.{Passes}
 use Rattle.order_classes.specs.Looks.{IsLook, Meets, one_row}
 use Rattle.order_classes.specs.Numbers.{IsNumberOf, IsLeastOf}
 use Rattle.order_classes.specs.Shows.{shows_of_line}

@@ -6,12 +6,11 @@ use Rattle.lock_queues.specs.Reasons.{Among}
 use Rattle.class_stretches.specs.Classes.{AllLater, AreGroups, Class, IsClass, LeastsRise, in_runs}
 use Rattle.order_classes.specs.Numbers.{IsNumberOf}
 use Rattle.class_stretches.proofs.Counted.{class-number}
-use Rattle.order_classes.specs.Numbers.{IsNumberOf}
 use Rattle.spec_classes.proofs.Counts.{number-none, number-same, number-sum}
 
 later : {A : Type 0} (n : ℕ) (cs : List (Class A)) (c : Class A) → AllLater n cs → Among c cs → n < c.least
 later n [] c a m = absurd m
-later n (d ∷ cs) c a (inl e) = subst (λ (x : Class A). n < x.least) (sym e) a.0
+later {A = A} n (d ∷ cs) c a (inl e) = subst (λ (x : Class A). n < x.least) (sym e) a.0
 later n (d ∷ cs) c a (inr m) = later n cs c a.1 m
 
 -- of each item of a list the test is so exactly where it is so of the class

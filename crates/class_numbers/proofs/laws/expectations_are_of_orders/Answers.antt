@@ -1,4 +1,6 @@
 use Rattle.spec_schedules.specs.declared.kind.Kind.TheVariants.{Permutations}
+use Rattle.order_classes.specs.Looks.{IsLook}
+use Rattle.asked_classes.specs.declared.expectations.AskedExpectation.{AskedExpectation}
 use Rattle.class_commands.specs.Classing.{grouping}
 use Rattle.class_numbers.specs.Told.{IsExpectationTold}
 use Rattle.class_numbers.proofs.ExpectedLemmas.{asked-all, expectation-told}
@@ -6,7 +8,7 @@ use Rattle.class_numbers.proofs.laws.expectations_are_of_orders.Goals as goal
 
 pub returns : goal.returns
 returns c = λ bytes path wanted text t.
-    let told = λ e look.
+    let told = λ (e : AskedExpectation). λ (look : IsLook t.tables e.look).
     expectation-told Permutations t.tables t.file.run t.asked.filters.items (grouping wanted.answers) t.classed t.are c.expectations_are_seen.ensures
     e look c.one_row_is_met.ensures c.looks_see_lines.ensures in
     asked-all t.tables (IsExpectationTold Permutations t.tables t.file.run t.asked.filters.items t.classed.rows.items) told wanted.expectations.items
