@@ -38,5 +38,6 @@ not-tested contents old new bytes name wanted all (fault.Spec error) h known = h
 not-tested contents old new bytes name wanted all (fault.Asked asked.NoMemory) h known = tt
 not-tested contents old new bytes name wanted all (fault.Asked error) h known = all-asked wanted all h.1.0 h.1.2.0 error h.1.2.2
 not-tested contents old new bytes name wanted all (fault.Run error) h known = (wanted, all, h.1)
+not-tested contents old new bytes name wanted all (fault.TooMany noted) h known = tt
 not-tested contents old new bytes name wanted all fault.NoMemory h known = tt
 not-tested contents old new bytes name wanted all (fault.Write error) h known = tt

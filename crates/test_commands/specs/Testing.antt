@@ -43,8 +43,8 @@ pub record IsTested (known : Option (List ℕ)) (bytes name : List ℕ) (tested 
   pub text : IsText bytes name tested.text.items
   pub verdict : IsVerdict known tested.text.items tested.verdict
 
--- why a spec is not tested: the bytes are no spec file, its orders are not run, or there is no room for all states; the accepted file is not read; or memory ran out. That all of a
--- file's classes is asked is refused of no file
+-- why a spec is not tested: the bytes are no spec file, its orders are not run, or there is no room for all states; the accepted file is not read; or memory
+-- ran out. That all of a file's classes is asked is refused of no file
 abbrev pub IsNotTested : Option (List ℕ) → List ℕ → List ℕ → TestFault → Type 0
 IsNotTested known bytes name (Classes (fault.Spec error)) = IsNoSpec bytes error
 IsNotTested known bytes name (Classes (fault.Asked asked.NoMemory)) = Unit {0}
