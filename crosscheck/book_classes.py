@@ -1,37 +1,38 @@
-"""What `isofarm classes --book` prints: the orders of a spec, grouped by what books tell of them.
+"""What `isofarm classes --book` prints: the orders of a spec in classes, by what books tell of them.
 
 usage: python3 crosscheck/book_classes.py BOOK.. [--ranks] [--outcomes] [--brief] [--json]
 
-No order is run. What is told goes by the facts of the books alone, so a spec may have any number of orders. Facts may say what is not true:
-then letters and marks are those of what is told.
+No order is run. What is printed goes by the facts of the books alone, so a spec may have any number of orders. Facts may be untrue: then letters
+and marks are those of what the books say.
 """
 
 import json
 import sys
 from collections import Counter
+from dataclasses import dataclass
 from functools import cached_property
 
-from asked import BRIEF, JSON, OUTCOMES, RANKS, Asked
 from binding import bind
 from books import event_of, first_without, values
+from class_request import BOOK_FLAGS, JSON, OUTCOMES, RANKS, Request
 from class_values import BY_OUTCOMES, classes_json
-from classes import OF_BOOKS, Class, Page, Shows, add_rank, with_marks
+from classes import ClassPage, OrderClass, number, number_of, with_marks
 from compare_files import answer, fault, joined_at
-from machine import FAULTS
-from shown import marks_text, statements_of, word_of
+from machine import FAULTS, outcome_lines
+from schedules import Ending
+from shown import level_lines, lines_with_levels, marks_text, statements_of, visible, word_of
 from spec_file import read_spec
 
-FLAGS = [RANKS, OUTCOMES, BRIEF, JSON]
-LEAST_OUTCOMES = 8
-IN_NO_BOOK = "what orders leave is in no book, so S and R are not told"
+OF_BOOKS = "WDEN"
+NOT_KNOWN = "Books have no final rows: S and R are not known."
 
 
 # ---- what books tell of an order
 
 
-def told_by(outcome):
-    """The outcome that books tell, of its text: what is left, and how sessions stand, they do not tell."""
-    return Shows(tuple(tuple(map(event_of, events)) for events in json.loads(outcome)), (), ())
+def ending_told(outcome):
+    """The ending that a book tells, of the text of its outcome: final rows and how sessions stand it does not tell."""
+    return Ending(tuple(tuple(map(event_of, events)) for events in json.loads(outcome)), (), ())
 
 
 def marks_by_turns(events):
@@ -46,65 +47,98 @@ def marks_by_turns(events):
         last.update({":"} if word == "waiting" else {"!"} if event in FAULTS else set())
 
 
-def marks_told(line, told):
+def marks_told(line, transcripts):
     """The marks of a line's steps, each those of its own turn. A step of which nothing is told has none."""
     turns = {}
-    for events in told:
+    for events in transcripts:
         for step, turn in [*marks_by_turns(events)]:
             turns.setdefault(step, []).append(turn)
     return marks_text([turns[step].pop(0) if turns.get(step) else set() for step in line])
 
 
+# ---- ranges of ranks
+
+
+def joined(ranges):
+    """Ranges in their order, each with its first and its last rank; those that touch as one."""
+    whole = []
+    for first, last in sorted(ranges):
+        if whole and whole[-1][1] == first - 1:
+            whole[-1][1] = last
+        else:
+            whole.append([first, last])
+    return whole
+
+
+def ranges_text(ranges):
+    return " ".join(f"{first}-{last}" if last > first else f"{first}" for first, last in ranges)
+
+
 # ---- classes and their page
 
 
+@dataclass
+class BookClass(OrderClass):
+    """A class with the ranges of its ranks, of which no two touch."""
+
+    ranges: list
+
+
+def class_of(outcome, ranks):
+    ending, ranges = ending_told(outcome), joined([rank, rank] for rank in ranks)
+    return BookClass(ending, len(ranks), ranges[0][0], Counter(dict.fromkeys(ending.letters, len(ranks))), ranges)
+
+
 class BookClasses:
-    """The orders of a spec of which books tell something, grouped by that."""
+    """The orders of a spec of which books tell something, in classes by what they tell."""
+
+    is_lined = False
 
     def __init__(self, spec, outcomes):
-        self.spec, ranges = spec, {}
+        self.spec, self.orders, ranks = spec, spec.ranks(), {}
         for rank in sorted(outcomes):
-            add_rank(ranges.setdefault(outcomes[rank], []), rank)
+            ranks.setdefault(outcomes[rank], []).append(rank)
         self.first_missing = first_without(spec, outcomes.keys())
-        self.of_outcomes = [group(told_by(outcome), its_ranges) for outcome, its_ranges in ranges.items()]
-        self.by_least = {one.least: one for one in self.of_outcomes}
+        self.all = [class_of(outcome, its_ranks) for outcome, its_ranks in ranks.items()]
 
-    def groups(self, _asked):
-        return self.of_outcomes
+    def asked(self, _request):
+        return self.all
 
-    def steps(self, least):
-        """The names of the steps of the least order of a class, each cut, with its marks."""
-        line = self.spec.line(least)
-        return with_marks(self.spec, line, marks_told(line, self.by_least[least].one.told))
+    def first_order(self, one):
+        return self.spec.line(one.first_rank)
 
-
-def group(one, ranges):
-    orders = sum(last - first + 1 for first, last in ranges)
-    return Class(one, orders, Counter(dict.fromkeys(one.letters(), orders)), ranges)
+    def steps(self, one):
+        """The names of the steps of a class's first order, each cut, with its marks."""
+        order = self.first_order(one)
+        return with_marks(self.spec, order, marks_told(order, one.ending.transcripts))
 
 
-class BookPage(Page):
+class BookPage(ClassPage):
     """What is asked of the classes of books, and its text."""
 
-    least_classes = LEAST_OUTCOMES
+    def __init__(self, classes, path, request, lines=()):
+        super().__init__(classes, path, request, lines)
+        self.by, self.orders_missing = BY_OUTCOMES, classes.orders - self.orders
 
-    def __init__(self, classes, path, asked):
-        super().__init__(classes, path, asked)
-        self.by, self.one, self.more, self.letters = BY_OUTCOMES, "outcome", "outcomes", OF_BOOKS
-        self.orders_missing, self.first_missing = self.orders - self.orders_asked, classes.first_missing
+    def letters_with_places(self):
+        return OF_BOOKS
 
-    def may_be_some(self):
-        return self.orders_missing > 0
+    def head_lines(self):
+        first, some, behind = f"rank {self.classes.first_missing}", f"{number(self.orders)} of ", ""
+        if self.orders_missing == 1:
+            behind = f"; 1 order is missing, {first}"
+        elif self.orders_missing:
+            behind = f"; {number(self.orders_missing)} orders are missing, the first of {first}"
+        orders = number_of(self.classes.orders, "order", "orders")
+        yield f"{visible(self.path)}: {some if behind else ''}{orders} in {number_of(len(self.rows), self.one, self.more)}{behind}"
+        yield from level_lines(self.lines_with_levels)
+        yield NOT_KNOWN
 
-    def expected_lines(self):
-        """What stands in the place of what is expected."""
-        yield IN_NO_BOOK
-        if not self.orders_missing:
-            yield "no order is missing"
-        elif self.orders_missing == 1:
-            yield f"1 order is missing, of rank {self.first_missing}"
-        else:
-            yield f"{self.orders_missing} orders are missing, the first of rank {self.first_missing}"
+    def beneath(self, one):
+        if self.request.has(RANKS):
+            yield f"ranks {ranges_text(one.ranges)}"
+        if self.request.has(OUTCOMES):
+            yield from outcome_lines(self.classes.spec, one.ending.transcripts)
 
 
 # ---- the command
@@ -139,9 +173,9 @@ class BookAsking:
         return BookClasses(self.spec, {rank: outcome for rank, outcomes in told.items() for outcome in outcomes})
 
     def text(self, flags):
-        asked = Asked(flags={*flags})
-        page = BookPage(self.classes, self.name, asked)
-        return (classes_json(page, statements_of(self.file)) if asked.is_json else page.text()).encode()
+        classes = self.classes
+        page = BookPage(classes, self.name, Request(flags={*flags}), lines_with_levels(self.joined[0], self.file))
+        return (classes_json(page, statements_of(self.file)) if page.request.has(JSON) else page.text()).encode()
 
     def answer(self, flags):
         """The exit status, and what stands on the two outputs."""
@@ -149,7 +183,7 @@ class BookAsking:
 
 
 def main(words):
-    paths, flags = [word for word in words if word not in FLAGS], [word for word in words if word in FLAGS]
+    paths, flags = [word for word in words if word not in BOOK_FLAGS], [word for word in words if word in BOOK_FLAGS]
     if not paths or any(path.startswith("--") for path in paths):
         sys.exit(__doc__)
     status, out, error = BookAsking(*paths).answer(flags)

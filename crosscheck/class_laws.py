@@ -1,173 +1,183 @@
-"""What holds of the classes of a spec, of their pages and of their JSON. Each of these yields what is wrong."""
+"""What holds of classes, of the two ways in which orders are counted, and of pages and JSON. Each of these yields what is wrong."""
 
 import json
 from itertools import permutations
 
-from asked import ANSWERS, BRIEF, FILTERS, JSON, LEFT, LOOK, OUTCOMES, asked_by
-from asking import opposite
-from class_objects import ANSWERING, ReadObject
-from class_pages import OF_LOOK, OF_OUTCOME, Read
-from classes import OF_SHOWS, Shows
-from machine import ABORTED, DEADLOCK, FAULTS, OUT_OF_RANGE, printed
+from class_pages import ReadObject, ReadText, wrong_beside
+from class_request import ALL_ORDERS, BRIEF, BY_RESULT, FILTERS, FINAL_ROWS, HTML, JSON, OUTCOMES, QUERY, opposite, request_of
+from class_values import objects_in
+from classes import ClassPage
+from facts import ranks_with
+from machine import ABORTED, DEADLOCK, FAULTS, OUT_OF_RANGE
 from moment_laws import lines_told
 from moments import NOT_SENT, WAITS, shown
-from shown import WIDTH, Order, broken, marks, show_json, value_text, visible
+from schedules import Ending, is_dropped, lines_run, one_by_one, serial_results_one_by_one
+from shown import Order, marks, show_json, value_text
 from sql import LEAST, MOST
 
-# Of so many orders the moments are looked at, and of so many sessions all serial orders.
-ORDERS_LOOKED_AT, MOST_SESSIONS = 60, 6
-FILTERS_LOOKED_AT, CLASSES_LOOKED_AT, CLASSES_SHOWN = 4, 6, 3
-LETTERS = {"waits": "W", "deadlock": "D", "error": "E", "unsent": "N", "stuck": "S", "serial": "R"}
+# Of so many permutations all are run one by one, and of so many sessions all serial orders are led from moment to moment.
+MOST_ONE_BY_ONE, MOST_SESSIONS = 3_000, 4
+CLASSES_LOOKED_AT, FILTERS_LOOKED_AT, ORDERS_LOOKED_AT, CLASSES_SHOWN = 4, 3, 20, 3
+LEFT_OUT_OF_TEXTS = (JSON, BRIEF, HTML)
+
+
+# ---- the two ways in which orders are counted
+
+
+def counted(endings):
+    """What can be compared: each ending with how many orders have it and the least rank."""
+    return {ending: (one.orders, one.first_rank) for ending, one in endings.items()}
+
+
+def wrong_ways(classes):
+    """What is counted otherwise one by one than by layers."""
+    if counted(classes.endings) != counted(one_by_one(classes.spec, classes.all_orders)):
+        yield f"{'permutations' if classes.all_orders else 'orders'} are counted otherwise one by one"
+    if classes.serial != serial_results_one_by_one(classes.spec):
+        yield "serial orders have other results one by one"
+
+
+def wrong_numbers(sent, every):
+    """What does not hold of the orders that clients can send beside all permutations."""
+    steps = len(sent.spec.steps)
+    whole = {ending: one for ending, one in counted(sent.endings).items() if ending.steps() == steps}
+    if whole != {ending: one for ending, one in counted(every.endings).items() if "N" not in ending.letters}:
+        yield "the permutations of which every step is sent are not the orders that have all steps"
+    if every.orders != every.spec.ranks():
+        yield "permutations are not all counted"
+    if any("N" in ending.letters for ending in sent.endings):
+        yield "a step of an order is not sent"
+    if any("S" not in ending.letters for ending in sent.endings if ending.steps() < steps):
+        yield "an order has not all steps, and nobody waits"
 
 
 # ---- classes beside moments
 
 
-def shows_by_moments(spec, order):
-    """What an order shows, put together from its moments."""
-    told = tuple(
-        tuple(event for moment in order.moments if moment.session == session for event in moment.events) for session in range(len(spec.session_names))
-    )
-    return Shows(told, tuple((name, tuple(map(tuple, rows))) for name, rows in order.left), tuple(order.standing))
+def ending_by_moments(spec, led):
+    """How an order ends, put together from its moments."""
+    sessions = range(len(spec.session_names))
+    transcripts = tuple(tuple(event for moment in led.moments if moment.session == session for event in moment.events) for session in sessions)
+    return Ending(transcripts, tuple((name, tuple(map(tuple, rows))) for name, rows in led.left), tuple(led.standing))
 
 
-def letters_by_moments(order, is_serial_answer):
-    """The letters of an order, as its moments tell them."""
-    events = {event for moment in order.moments for event in moment.events}
+def letters_by_moments(led):
+    """The letters of an order but for R, as its moments tell them."""
+    events = {event for moment in led.moments for event in moment.events}
     has = {
-        "W": any(moment.want for moment in order.moments if moment.kind != NOT_SENT),
-        "D": any(moment.ring for moment in order.moments),
+        "W": any(moment.want for moment in led.moments if moment.kind != NOT_SENT),
+        "D": any(moment.ring for moment in led.moments),
         "E": bool(events & ({*FAULTS} - {DEADLOCK, ABORTED})),
-        "N": any(moment.kind == NOT_SENT for moment in order.moments),
-        "S": WAITS in order.standing,
+        "N": any(moment.kind == NOT_SENT for moment in led.moments),
+        "S": WAITS in led.standing,
     }
-    has["R"] = not (has["D"] or has["E"] or has["N"] or has["S"] or is_serial_answer)
     return {letter for letter, is_so in has.items() if is_so}
 
 
-def serial_answers(spec):
-    """The answers of all serial orders: the sessions in any order, each with all its steps."""
-    answers = set()
+def serial_results_by_moments(spec):
+    """The results of all serial orders: the sessions in any order, each with all its steps."""
     for sessions in permutations(range(len(spec.session_names))):
-        line = [step for session in sessions for step, (owner, _statements) in enumerate(spec.steps) if owner == session]
-        answers.add(shows_by_moments(spec, shown(spec, line)).answer)
-    return answers
+        order = [step for session in sessions for step, (owner, _statements) in enumerate(spec.steps) if owner == session]
+        yield ending_by_moments(spec, shown(spec, order)).result
 
 
-def answer_by_lines(spec, order):
-    """What an order answers, by the lines of its moments and the rows that it leaves."""
-    lines = [[] for _name in spec.session_names]
-    for moment in order.moments:
-        lines[moment.session] += [line for event in moment.events if (line := printed(spec, event).decode()).startswith(ANSWERING)]
-    return repr((lines, order.left))
-
-
-def having_rank(groups, rank):
-    return [group for group in groups if any(first <= rank <= last for first, last in group.ranges)]
-
-
-def wrong_answers(spec, answers, orders):
-    """Orders are in one class by answers where they answer the same, and else in others."""
-    least_of = {}
-    for rank, order in orders.items():
-        having = [group.least for group in having_rank(answers, rank)]
-        if len(having) != 1 or least_of.setdefault(answer_by_lines(spec, order), *having) != having[0]:
-            yield f"rank {rank} is not in the class by answers of an order that answers the same"
-    if len({*least_of.values()}) < len(least_of):
-        yield "orders of a class by answers answer otherwise"
-
-
-def wrong_classes(classes, random):
-    """What is wrong with the classes of a spec, and with the ranks that they have."""
+def wrong_first_orders(classes, random):
+    """The first order of a class has its rank, and ends as the class does where it is led from moment to moment."""
     spec = classes.spec
-    number, groups, answers = spec.ranks(), classes.groups(asked_by([])), classes.groups(asked_by([ANSWERS]))
-    is_told = spec.lines is None and len(spec.session_names) <= MOST_SESSIONS
-    serial = serial_answers(spec) if is_told else set()
-    if sum(group.orders for group in groups) != number or sum(group.orders for group in answers) != number:
-        yield "the orders of all classes are not all orders"
-    if any(several != sorted(several, key=lambda group: group.least) for several in (groups, answers)):
-        yield "classes do not stand in the order of their least ranks"
-    orders = {rank: shown(spec, spec.line(rank)) for rank in sorted(random.sample(range(number), min(number, ORDERS_LOOKED_AT)))}
-    yield from wrong_answers(spec, answers, orders)
-    for rank, order in orders.items():
-        one, having = shows_by_moments(spec, order), having_rank(groups, rank)
-        if [group.one for group in having] != [one] or having[0].least > rank:
-            yield f"rank {rank} is in no class, in another one, or below its least rank"
-            continue
-        letters = letters_by_moments(order, not is_told or one.answer in serial)
-        if letters != {*having[0].letters} - (set() if is_told or spec.lines else {"R"}):
-            yield f"rank {rank} has the letters {letters}, and its class {[*having[0].letters]}"
-        told = "".join(marks(order.moments))
-        if (":" in told, "-" in told) != ("W" in letters, "N" in letters) or (letters & {"D", "E"} and "!" not in told):
-            yield f"rank {rank} has the marks {told} and the letters {letters}"
+    for one in random.sample(classes.all, min(len(classes.all), CLASSES_LOOKED_AT)):
+        order = classes.first_order(one)
+        if ranks_with(spec, [spec.steps[step][0] for step in order]).start != one.first_rank:
+            yield f"the first order of rank {one.first_rank} has another rank"
+        led = shown(spec, order)
+        if ending_by_moments(spec, led) != one.ending:
+            yield f"the first order of rank {one.first_rank} ends otherwise, led from moment to moment"
+        if letters_by_moments(led) != {*one.letters} - {"R"}:
+            yield f"the first order of rank {one.first_rank} has other letters, led from moment to moment"
+        told, letters = "".join(marks(led.moments)), one.letters
+        if (":" in told, "-" in told) != ("W" in letters, "N" in letters) or ({*letters} & {"D", "E"} and "!" not in told):
+            yield f"the first order of rank {one.first_rank} has the marks {told} and the letters {[*letters]}"
 
 
-# ---- pages with filters beside the page without
+def wrong_orders(classes, random):
+    """Any order is in the class of what it ends in where it is led from moment to moment, and not below its first rank."""
+    spec, by_ending = classes.spec, {one.ending: one for one in classes.all}
+    number = spec.ranks()
+    wanted = {*random.sample(range(number), min(number, ORDERS_LOOKED_AT))}
+    for rank, (line, worlds) in enumerate(lines_run(spec)):
+        if rank in wanted:
+            sent = len(line) if classes.all_orders else next((at for at, step in enumerate(line) if is_dropped(worlds[at], step)), len(line))
+            if not all(is_dropped(worlds[sent], step) for step in line[sent:]):
+                continue
+            one = by_ending.get(ending_by_moments(spec, shown(spec, line[:sent])))
+            if one is None or one.first_rank > rank:
+                yield f"the order of rank {rank} is in no class, or below its first rank"
 
 
-def told_to(row, session):
-    """The lines of an outcome that belong to a session."""
-    lines = row.outcome()
-    heads = [number for number, line in enumerate(lines) if line.startswith(OF_OUTCOME)] + [len(lines)]
-    return lines[heads[session] + 1 : heads[session + 1]]
+def wrong_anomalies(classes):
+    """A class has R where it has none of D, E, N and S and its result is none of those of serial orders."""
+    serial = {*serial_results_by_moments(classes.spec)}
+    for one in classes.all:
+        is_anomaly = not {"D", "E", "N", "S"} & {*one.letters} and one.ending.result not in serial
+        if ("R" in one.letters) != is_anomaly:
+            yield f"the class of rank {one.first_rank} has R where it has not, or has it not"
 
 
-def passes(spec, word, row):
-    """Whether the orders of a row pass a filter, by the row's letters and its outcome."""
+# ---- filters and results
+
+
+def filter_words(classes, random):
+    """Some filters that may be asked for."""
+    names = [name for name in FILTERS if (name != "not-sent" or classes.all_orders) and (name != "anomaly" or not classes.is_lined)]
+    words = [f"--{no}{name}" for name in names for no in ("", "no-")]
+    words += [f"--{no}deadlock={name}" for no in ("", "no-") for name in classes.spec.session_names]
+    return random.sample(words, FILTERS_LOOKED_AT)
+
+
+def passes(spec, word, ending, letters):
+    """Whether an order with this ending and these letters passes a filter, by its word alone."""
     name, has_session, session = word.removeprefix("--").removeprefix("no-").partition("=")
-    is_so = "  error: deadlock" in told_to(row, spec.session_names.index(session)) if has_session else LETTERS[name] in row.letters
-    # The filter that has a `no` before `serial` is that of the letter.
-    return is_so == (word.startswith("--no-") == (name == "serial"))
+    is_so = DEADLOCK in ending.transcripts[spec.session_names.index(session)] if has_session else FILTERS[name] in letters
+    return is_so == (not word.startswith("--no-"))
 
 
-def compared(row):
-    """What a row has in a page with filters as in one without, but for its number."""
-    return row.front[1:], row.order
+def page_of(classes, words):
+    return ClassPage(classes, "made.spec", request_of([ALL_ORDERS] * classes.all_orders + words))
 
 
-def wrong_filters(asking, random):
-    """The classes of filters are those without whose orders pass, and those of a filter and of its opposite are all."""
-    spec = asking.spec
-
-    def read(words):
-        return Read(asking.page("made.spec", asked_by(words))[0])
-
-    def read_json(words):
-        return ReadObject(asking.page("made.spec", asked_by([JSON, *words]))[0])
-
-    whole = read([OUTCOMES])
-    outcomes = {row.least: row.outcome() for row in whole.rows}
-    words = [word for word in FILTERS if spec.lines is None or "serial" not in word]
-    words += [f"{word}={name}" for word in ("--deadlock", "--no-deadlock") for name in spec.session_names]
-    for word in random.sample(words, FILTERS_LOOKED_AT):
-        if read([word]).asked + read([opposite(word)]).asked != whole.orders:
+def wrong_filters(classes, random):
+    """A filter and its opposite have all orders and no class in common, several have the classes that pass all, and results have their orders."""
+    words, spec = filter_words(classes, random), classes.spec
+    for word in words:
+        page, other = page_of(classes, [word]), page_of(classes, [opposite(word)])
+        if page.orders + other.orders != classes.orders or {one.first_rank for one in page.rows} & {one.first_rank for one in other.rows}:
             yield f"{word} and its opposite have not all orders"
-    for _ in range(FILTERS_LOOKED_AT):
-        some = random.sample(words, random.randint(1, 3))
-        passing = [row for row in whole.rows if all(passes(spec, word, row) for word in some)]
-        filtered, by_answers = read(some), read([*some, ANSWERS, OUTCOMES])
-        if [*map(compared, filtered.rows)] != [*map(compared, passing)] or filtered.asked != sum(row.orders for row in passing):
+    for some in ([], words[:1], words[:2], words):
+        page, results = page_of(classes, some), page_of(classes, [*some, BY_RESULT])
+        passing = [one.first_rank for one in classes.all if all(passes(spec, word, one.ending, one.letters) for word in some)]
+        if [one.first_rank for one in page.rows] != passing:
             yield f"with {some} are other classes than those that pass"
-        if any(row.outcome() != outcomes[row.least] for row in by_answers.rows):
-            yield f"with {some} by answers is another outcome than that of the least rank"
-        yield from (f"{some} by answers: {wrong}" for wrong in wrong_joint(read_json(some), read_json([*some, ANSWERS])))
+        yield from (f"{some} by result: {wrong}" for wrong in wrong_results(page, results))
 
 
-def wrong_joint(by_shows, by_answers):
-    """Those by answers have the orders of all classes that answer so, and the first of these."""
+def wrong_results(page, results):
+    """Results have the orders of all classes that end so, the first of these, and their letters."""
     joint = {}
-    for row in by_shows.rows:
-        joint.setdefault(row.answer(), []).append(row)
-    want = [(answer, rows[0].least, rows[0].value["order"], sum(row.orders for row in rows)) for answer, rows in joint.items()]
-    if [(row.answer(), row.least, row.value["order"], row.orders) for row in by_answers.rows] != want:
+    for one in page.rows:
+        joint.setdefault(one.ending.result, []).append(one)
+    want = [(several[0].first_rank, sum(one.orders for one in several)) for several in joint.values()]
+    if [(one.first_rank, one.orders) for one in results.rows] != want:
         yield "they are not those of its classes"
+    for letter in "DESR":
+        total, of_results = page.total(letter), results.total(letter)
+        if (total is None) != (of_results is None) or (total and (total[0] != of_results[0] or total[1] < of_results[1])):
+            yield f"{letter} has other orders, or more results than classes"
 
 
-# ---- looks and expectations
+# ---- queries
 
 
-def plain_looks(table, name, rows, random):
-    """Looks at a table without a condition but for its key, each with what is to be seen of these rows."""
+def plain_queries(table, name, rows, random):
+    """Queries of a table without a condition but for its key, each with what is to be seen of these rows."""
     column = random.choice(table.columns)
     place = table.columns.index(column)
     yield f"SELECT * FROM {name}", [*rows]
@@ -181,103 +191,72 @@ def plain_looks(table, name, rows, random):
         yield f"SELECT * FROM {name} WHERE {table.key} = {value_text(row[table.columns.index(table.key)])}", [row]
 
 
-def wrong_looks(classes, random):
-    """What is seen without a condition is what is left: all rows, one by its key, their number, a sum, and rows in an order."""
-    spec, groups = classes.spec, classes.groups(asked_by([]))
-    for group in random.sample(groups, min(len(groups), CLASSES_LOOKED_AT)):
-        for name, rows in group.one.left:
-            for text, want in plain_looks(spec.tables[name], name, rows, random):
-                events = classes.seen(text, group)
+def wrong_queries(classes, random):
+    """What is seen without a condition is what the final rows are: all of them, one by its key, their number, a sum, and rows in an order."""
+    for one in random.sample(classes.all, min(len(classes.all), CLASSES_LOOKED_AT)):
+        for name, rows in one.ending.final_rows:
+            for text, want in plain_queries(classes.spec.tables[name], name, rows, random):
+                events = classes.seen(text, one)
                 rows_told = [("row", row) for row in want or []]
                 if events != ([OUT_OF_RANGE] if want is None else [*rows_told, ("rows", len(rows_told))]):
-                    yield f"{text} sees {events} where {rows} are left"
+                    yield f"{text} sees {events} where {rows} are the final rows"
 
 
-def seen_in(row):
-    """The lines that the only look at a class sees."""
-    first = next(number for number, line in enumerate(row.besides) if line.startswith(OF_LOOK))
-    lines = row.besides[first:]
-    return lines[next(number for number, line in enumerate(lines) if line.startswith(("  row", "  error: "))) :]
-
-
-def wrong_expectation(asking, select, values):
-    """An expectation is met by the orders of which a look tells one row with these values, and first not met by the least of the others."""
-    looked = Read(asking.page("made.spec", asked_by([LOOK, select]))[0])
-    expected = Read(asking.page("made.spec", asked_by(["--brief", "--expect", select, *values]))[0]).expected[0]
-    want = [*broken(visible(f"row {'|'.join(values)}"), WIDTH, 2, 4), "  rows 1"]
-    missing = [row for row in looked.rows if seen_in(row) != want]
-    first = min((row.least for row in missing), default=None)
-    if (expected.as_expected, expected.first) != (looked.orders - sum(row.orders for row in missing), first):
-        yield f"{values} is expected of {select} and told otherwise than it is looked at"
-
-
-# ---- JSON beside the page and beside the JSON of orders
+# ---- texts, JSON and pages of the same words
 
 
 def without(words, *left_out):
     return [word for word in words if word not in left_out]
 
 
-def told_of(row, told, has_ranks):
-    """What a class has in the JSON and in the page, with what each session is told: a text, since a value may have a line feed."""
-    return row.least, row.orders, row.shows, row.ranges() if has_ranks else [], ["\n".join(lines) for lines in told]
-
-
-def wrong_beside_page(read, page):
-    """The numbers of the JSON are those of the page with all its rows, and so are the classes."""
-    numbers = read.orders, read.asked, read.by_answers, [(one["met"], one["first"]) for one in read.expected]
-    if numbers != (page.orders, page.asked, page.by_answers, [(one.as_expected, one.first) for one in page.expected]):
-        yield "JSON has other orders than the page"
-    totals = {letter: total and (*total,) for letter, total in read.totals.items()}
-    if totals != {letter: page.total(letter) for letter in OF_SHOWS}:
-        yield "JSON has other totals than the page"
-    sessions = range(len(read.value["sessions"]))
-    objects = [told_of(row, [[f"  {line}" for line in lines] for lines in row.told], read.has_ranks) for row in read.rows]
-    if read.has_classes and objects != [told_of(row, [told_to(row, session) for session in sessions], read.has_ranks) for row in page.rows]:
-        yield "JSON has other classes than the page"
-
-
-def wrong_beside_words(read, path, asked):
+def wrong_beside_words(read, path, request):
     """Names, SELECTs and values stand as they were given, and there is what was asked for."""
-    expected = [(one["select"], one["values"]) for one in read.expected]
-    if (read.value["name"], read.looks, expected) != (path, asked.looks, [(one.select, one.values) for one in asked.expected]):
+    expectations = [(one["select"], one["values"]) for one in read.expectations]
+    wanted = [(one.select, one.values) for one in request.expectations]
+    if (read.value["name"], read.queries, expectations) != (path, request.queries, wanted):
         yield "JSON has not the words that were given"
-    if (read.by_answers, read.has_classes) != (asked.by_answers, not asked.is_brief):
+    if (read.by_result, read.has_classes) != (request.has(BY_RESULT), not request.has(BRIEF)):
         yield "JSON has something else than was asked for"
 
 
 def wrong_beside_order(read, row, order):
-    """Of the least order of a class, beside its JSON."""
-    of_spec, of_order = ["name", "orders", "sessions", "steps"], ["order", "left"] + ["open"] * (not read.by_answers)
-    if any(read.value[name] != order[name] for name in of_spec):
+    """A class beside the JSON that `show` prints of its first rank. Behind a short order that has the steps that are not sent too."""
+    if any(read.value[name] != order[name] for name in ("name", "sessions", "steps")):
         yield "JSON has other sessions or steps than that of an order"
-    if any(row.value[name] != order[name] for name in of_order):
-        yield f"JSON leaves something else than that of the order of rank {row.least}"
-    if row.told != [[*lines_told(order, session)] for session in range(len(order["sessions"]))]:
-        yield f"JSON tells something else than that of the order of rank {row.least}"
+    length = len(row.value["order"])
+    if (row.value["order"], row.value["final_rows"]) != (order["order"][:length], order["left"]) or row.value.get("open", order["open"]) != order["open"]:
+        yield f"JSON has another end than that of the order of rank {row.first_rank}"
+    dropped = [order["sessions"].index(read.value["sessions"][read.steps[step]["session"]]) for step in order["order"][length:]]
+    told = [[*lines_told(order, session)] for session in range(len(order["sessions"]))]
+    told = [lines[: len(lines) - dropped.count(session)] for session, lines in enumerate(told)]
+    if row.transcripts != told:
+        yield f"JSON has other transcripts than that of the order of rank {row.first_rank}"
 
 
-def wrong_expected_objects(asking, path, words, read):
-    """What is expected is met by the orders of just those classes of which a look at the same SELECT tells that one row."""
-    looks = [word for one in read.expected for word in (LOOK, one["select"])]
-    out, is_as_expected = asking.page(path, asked_by([*without(words, BRIEF), *looks]))
-    looked = ReadObject(out)
-    yield from looked.wrong(not is_as_expected)
-    if looked.expected != read.expected:
-        yield "JSON expects something else where it is looked at"
-
-
-def wrong_objects(asking, path, words, random):
-    """What is wrong with the JSON of these words beside the page and the orders of the same. What is refused is refused alike."""
-    (status, out, error), page = asking.answer(path, words), asking.answer(path, without(words, JSON))
-    if (status, bool(out), error) != (page[0], bool(page[1]), page[2]):
-        yield "JSON has another status or another fault than the page"
-    if not out:
+def wrong_pages(asking, path, words, random):
+    """What is wrong with the text, the JSON and the page of these words beside one another. What is refused is refused alike."""
+    plain = without(words, *LEFT_OUT_OF_TEXTS)
+    text, value = asking.answer(path, plain), asking.answer(path, [*plain, JSON])
+    if (text[0], bool(text[1]), text[2]) != (value[0], bool(value[1]), value[2]):
+        yield "JSON has another status or another fault than the text"
+    if not text[1]:
         return
-    read, asked = ReadObject(out.decode()), asked_by(words)
-    yield from wrong_beside_words(read, path, asked)
-    # Without tables a session that has not ended is told right beneath the outcome, as a line of it would be.
-    yield from wrong_beside_page(read, Read(asking.page(path, asked_by([*without(words, JSON, BRIEF, LEFT), OUTCOMES]))[0]))
-    yield from wrong_expected_objects(asking, path, words, read)
+    read, request = ReadObject(value[1].decode()), request_of(plain)
+    yield from read.wrong(value[0])
+    yield from wrong_beside_words(read, path, request)
+    # What stands beneath a class may look like a line of another part.
+    bare = ReadText(asking.answer(path, without(plain, OUTCOMES, FINAL_ROWS))[1].decode())
+    yield from bare.wrong(text[0])
+    yield from wrong_beside(bare, read, False)
+    brief = asking.answer(path, [*plain, BRIEF])[1].decode()
+    if not text[1].decode().startswith(brief) or value[1].decode().partition(',"classes":')[0] + "}\n" != asking.answer(path, [*plain, BRIEF, JSON])[1].decode():
+        yield "what is brief is not the front of the whole"
+    queries = [word for one in read.expectations for word in (QUERY, one["select"])]
+    yield from ReadObject(asking.answer(path, [*plain, JSON, *queries])[1].decode()).wrong(value[0])
     for row in random.sample(read.rows, min(len(read.rows), CLASSES_SHOWN)):
-        yield from wrong_beside_order(read, row, json.loads(show_json(Order(asking.text, path, row.least))))
+        yield from wrong_beside_order(read, row, json.loads(show_json(Order(asking.text, path, row.first_rank))))
+    if HTML in words:
+        first, *orders = objects_in(asking.answer(path, [*plain, HTML])[1].decode())
+        if first != value[1].decode() or orders != [show_json(Order(asking.text, path, row.first_rank)) for row in read.rows[:1_000]]:
+            yield "the page has another JSON than is printed alone"
+

@@ -1,270 +1,385 @@
-"""Reads back the page that `isofarm classes` prints, and says what is wrong with its form, whatever is shown."""
+"""Reads back what `isofarm classes` prints, text, JSON or a page, and says what is wrong with its form, whatever is told."""
 
+import json
 import re
-from dataclasses import dataclass, field
-from itertools import takewhile
+from decimal import ROUND_HALF_UP, Decimal
 
-from classes import LEGEND, NOTHING, OF_ANSWERS, OF_SHOWS, WORDS
-from shown import HIDDEN, WIDTH
+from class_values import BY_ANSWERS, BY_OUTCOMES, BY_SHOWS, FORMAT, LETTERS, objects_in
+from classes import BENEATH, MEANINGS, OF_ALL, OF_RESULTS, OF_SENT
+from machine import ABORTED, DEADLOCK, FAULTS, LINES, OUT_OF_RANGE
+from moments import WAITS
+from shown import HIDDEN, LEFT_IN, json_text
 
-TITLE = re.compile(r"(.*): (?:(\d+) of )?(\d+) (orders?), (\d+) (class|classes|answer|answers|outcome|outcomes)")
-ROW = re.compile(r" *(\d+) +(\d+) +(\d+\.\d|0) +([WDENSR-]+) +(\d+)  ")
-EXPECTED, AS_EXPECTED = "expected of ", re.compile(r"  so in (\d+) of (\d+) (orders?)")
-FIRST_NOT_SO = re.compile(r"  first not so at rank (\d+):.*")
-ONES = ("order", "class", "answer", "outcome")
-NO_ORDERS, NOT_TOLD = "0", "-"
-NO_TOTAL = [NOT_TOLD] * 3
-NOT_ENDED = (" waits", " is in a transaction", " is in a failed block")
-OF_RANKS, OF_OUTCOME, OF_LEFT, OF_LOOK = "ranks ", "session ", "left in ", "look "
+FRONT, DOCTYPE = b'{"format":', b"<!doctype html>"
+HEAD = re.compile(r"(.*): (?:([\d,]+) of )?([\d,]+) (orders?) in ([\d,]+) (class|classes|result|results)(?: \((.*)\)|; (.*))?")
+TOTAL = re.compile(r"  ([WDENSR])  +([\d,]+|-)  +(<?[\d.]+%|-)  +([\d,]+|-)  .+")
+ROW = re.compile(r" {0,9}(\d+)  +([\d,]+)  +(<?[\d.]+%)  ([WDENSR.]{4,6})  +(\d+)  (.+)")
+HOLDS, FAILED = re.compile(r"expect .*: holds in ([\d,]+) of [\d,]+ orders?"), re.compile(r"  FAILED in ([\d,]+) of [\d,]+ orders?")
+LEVELS = re.compile(r"locking: strict two-phase locking; isolation levels? \(lines? ([\d, ]+)\) (has|have) no effect")
+MISSING = re.compile(r"(1) order is missing, rank (\d+)|([2-9]|[\d,]{2,}) orders are missing, the first of rank (\d+)")
+MARKUP = {*"<>&\u2028\u2029"}
+STRING = re.compile(r'"(?:[^"\\]|\\.)*"')
+MEMBERS = ["format", "name", "orders", "asked", "sessions", "steps", "level_lines", "by", "totals", "expectations", "queries"]
+OF_CLASS = ["first_rank", "orders", "letters", "order", "transcripts"]
+OF_STEP, OF_EXPECTATION, OF_TABLE = ["name", "session", "sql"], ["select", "values", "holds_in", "first"], ["table", "rows"]
+SENT, NOT_SENT = "step ", "not sent "
+ANSWERING = ("row ", "rows ", "inserted ", "updated ", "deleted ", "error: ")
+OF_BOOKS = "WDEN"
+ERRORS = {LINES[fault] for fault in FAULTS if fault not in (DEADLOCK, ABORTED)}
 
 
-@dataclass
-class Row:
-    """A class: its number, orders, share, letters and least rank, the lines of its order, and those beneath it."""
+def number(text):
+    return int(text.replace(",", ""))
 
-    front: tuple
-    order: list
-    besides: list = field(default_factory=list)
 
-    @property
-    def orders(self):
-        return int(self.front[1])
+# ---- JSON
 
-    @property
-    def shows(self):
-        return self.front[3]
 
-    @property
-    def letters(self):
-        return self.shows.replace("-", "")
+def step_named(line):
+    """The name of the step that a line tells as sent or as not sent; none where it tells something else."""
+    front = next((front for front in (SENT, NOT_SENT) if line.startswith(front)), None)
+    return front and line.removeprefix(front)
 
-    @property
-    def least(self):
-        return int(self.front[4])
 
-    def range_lines(self):
-        """The lines of its ranks; none where they are not told."""
-        if not (self.besides and self.besides[0].startswith(OF_RANKS)):
-            return []
-        return [self.besides[0], *takewhile(lambda line: line.startswith(" " * 6), self.besides[1:])]
+class ClassObject:
+    """A class as the JSON has it."""
+
+    def __init__(self, value):
+        self.value = value
+        self.first_rank, self.orders, self.shown, self.transcripts = (value[name] for name in ("first_rank", "orders", "letters", "transcripts"))
+        self.letters = self.shown.replace(".", "")
 
     def ranges(self):
         """The ranges of its ranks; none where they are not told."""
-        words = " ".join(self.range_lines()).split()[1:]
-        return [(int(one.split("-")[0]), int(one.split("-")[-1])) for one in words]
+        return [(first, last) for first, last in self.value.get("ranks", [])]
 
-    def outcome(self):
-        """The lines of its outcome; none where it is not told."""
-        behind = self.besides[len(self.range_lines()) :]
-        if not (behind and behind[0].startswith(OF_OUTCOME)):
-            return []
-        return [*takewhile(lambda line: not line.startswith((OF_LEFT, OF_LOOK)), behind)]
-
-    def besides_outcome(self):
-        """The lines beneath the order but for those of the outcome, in which characters are as they are."""
-        first = len(self.range_lines())
-        return self.besides[:first] + self.besides[first + len(self.outcome()) :]
-
-
-# ---- what is wrong with classes, each a row of a page or an object: its orders, letters, least rank and ranges
-
-
-def wrong_leasts(rows, asked, has_all):
-    """Least ranks rise, from 0 where all orders are asked for, and the classes have as many orders as are asked for."""
-    leasts = [row.least for row in rows]
-    if leasts != sorted({*leasts}) or (has_all and leasts[:1] != [0]):
-        yield "least ranks do not rise, or not from 0"
-    if sum(row.orders for row in rows) != asked:
-        yield "all orders asked for are not so many as the classes have"
-
-
-def wrong_total(letter, total, rows, by_answers):
-    """Of a letter, with how many orders and classes it is told to have; none where it is not told."""
-    having = [row.orders for row in rows if letter in row.letters]
-    if not total:
-        if letter != "R" or having:
-            yield f"{letter} is not told, or has a class"
-    elif total[1] != len(having) or (total[0] != sum(having) and not (by_answers and letter in ("S", "R"))):
-        yield f"{letter} has not so many orders or classes as its rows"
-    elif not len(having) <= total[0] <= sum(having):
-        yield f"{letter} has more orders than its rows, or not one in each"
-
-
-def wrong_ranges(rows):
-    """Ranges rise and do not touch, have as many ranks as the class has orders, and no rank is in two classes."""
-    ends = sorted(one for row in rows for one in row.ranges())
-    if any(first <= last for (_first, last), (first, _last) in zip(ends, ends[1:])):
-        yield "ranges of two classes have a rank in common"
-    for row in rows:
-        ranges = row.ranges()
-        rises = all(last + 1 < first for (_first, last), (first, _last) in zip(ranges, ranges[1:]))
-        if ranges and (ranges[0][0] != row.least or not rises or sum(last - first + 1 for first, last in ranges) != row.orders):
-            yield f"{ranges} are no ranges of the class of rank {row.least}"
-
-
-# ---- the page
-
-
-@dataclass
-class Expectation:
-    """Of an expectation: in how many orders it is so, of how many, and the first rank at which it is not."""
-
-    as_expected: int
-    orders: int
-    is_of_one: bool
-    first: int | None = None
-
-
-class Read:
-    """A page as it is read back: its orders and groups, what is expected, the numbers of each letter, and the row of each class."""
-
-    # What stands before the letters begins so, and what leaves orders out is called so.
-    front, leaves_out = EXPECTED, "filters"
-
-    def __init__(self, out):
-        self.text = out
-        (title,), *parts = [part.split("\n") for part in out.removesuffix("\n").split("\n\n")]
-        _path, some, orders, of_orders, groups, of_groups = TITLE.fullmatch(title).groups()
-        self.orders, self.groups, self.by_answers = int(orders), int(groups), of_groups.startswith("answer")
-        self.is_of_one = of_orders in ONES, of_groups in ONES
-        self.has_filters, self.asked = some is not None, int(some or orders)
-        self.expected_lines = parts.pop(0) if parts[0][0].startswith(self.front) else []
-        self.expected = expectations(self.expected_lines)
-        self.letter_lines = parts.pop(0)
-        self.letters = {line[4]: line[5:].split()[:3] for line in self.letter_lines[1:]}
-        self.has_rows = bool(parts)
-        self.legend = parts.pop() if parts else []
-        self.rows = rows_of(parts)
-
-    def total(self, letter):
-        """How many orders have a letter, and how many classes; none where it is not told."""
-        columns = self.letters.get(letter, NO_TOTAL)
-        return None if columns == NO_TOTAL else (int(columns[0]), int(columns[2]))
+    def sees(self, place, values):
+        """Whether the query at this place sees one row of these values."""
+        return self.value["query_rows"][place] == [f"row {'|'.join(values)}", "rows 1"]
 
     def letters_told(self):
-        """All letters that a page of its kind has."""
-        return OF_ANSWERS if self.by_answers else OF_SHOWS
+        """Letters, each with whether its first order has it by its transcripts; by results others of its orders may have W, N and S."""
+        lines = {line for session in self.transcripts for line in session}
+        yield "D", LINES[DEADLOCK] in lines
+        yield "E", not lines.isdisjoint(ERRORS)
+        if "open" in self.value or "final_rows" not in self.value:
+            yield "W", "waiting" in lines
+            yield "N", any(line.startswith(NOT_SENT) for line in lines)
+        if "open" in self.value:
+            yield "S", any(standing == WAITS for _session, standing in self.value["open"])
+
+    def result(self):
+        """The result of its first order."""
+        return json.dumps([[[line for line in session if line.startswith(ANSWERING)] for session in self.transcripts], self.value["final_rows"]])
+
+    def alike(self):
+        """What its orders have alike, and those of no other class."""
+        is_whole = "open" in self.value or "final_rows" not in self.value
+        return json.dumps([self.transcripts, self.value.get("final_rows"), self.value.get("open")]) if is_whole else self.result()
+
+
+class ReadObject:
+    """The JSON of classes as it is read back."""
+
+    def __init__(self, out):
+        self.text, self.value = out, json.loads(out)
+        self.orders, self.asked, self.by = self.value["orders"], self.value["asked"], self.value["by"]
+        self.by_result, self.of_books = self.by == BY_ANSWERS, self.by == BY_OUTCOMES
+        self.steps, self.totals, self.queries = (self.value[name] for name in ("steps", "totals", "queries"))
+        self.expectations = self.value["expectations"]
+        self.has_classes = "classes" in self.value
+        self.rows = [*map(ClassObject, self.value.get("classes", []))]
+        self.has_ranks = any("ranks" in row.value for row in self.rows)
+
+    def letters(self):
+        """The letters that have a place: of permutations N too."""
+        if self.by_result or self.of_books:
+            return OF_RESULTS if self.by_result else OF_BOOKS
+        return OF_SENT if self.totals["N"] is None else OF_ALL
+
+    def members(self):
+        """Its members before the classes."""
+        return [name for one in MEMBERS for name in [one, *["missing"] * (one == "asked" and self.of_books)]]
 
     # what is wrong with it
 
-    def wrong_letters(self):
-        for letter in self.letters:
-            yield from wrong_total(letter, self.total(letter), self.rows, self.by_answers)
+    def wrong_text(self):
+        if not self.text.endswith("\n") or "\n" in self.text[:-1]:
+            yield "is not one line"
+        if MARKUP & {*self.text}:
+            yield "has a character that may end a script"
+        if re.search(r"\s", STRING.sub("", self.text[:-1])):
+            yield "has a space outside of its strings"
+        if json_text(self.value) + "\n" != self.text:
+            yield "is spelled otherwise than what is read back"
+
+    def wrong_members(self):
+        """Members stand in their order, and all classes have the same ones."""
+        of_class = OF_CLASS + ["final_rows"] * (not self.of_books) + ["open"] * (self.by == BY_SHOWS) + ["query_rows"]
+        of_class += ["ranks"] * (self.has_ranks and self.of_books)
+        tables = [table for row in self.rows for table in row.value.get("final_rows", [])]
+        several = [([self.value], self.members() + ["classes"] * self.has_classes), ([self.totals], [*LETTERS])]
+        several += [(self.steps, OF_STEP), (self.expectations, OF_EXPECTATION), ([row.value for row in self.rows], of_class), (tables, OF_TABLE)]
+        if any([*one] != members for those, members in several for one in those):
+            yield "members are missing, strange or in another order"
+        if self.value["format"] != FORMAT or self.by not in (BY_SHOWS, BY_ANSWERS, BY_OUTCOMES):
+            yield "another format, or another grouping"
+        if self.value["level_lines"] != sorted({*self.value["level_lines"]}):
+            yield "lines of levels do not rise"
+
+    def wrong_totals(self):
+        for letter, total in self.totals.items():
+            if letter not in self.letters() and total is not None:
+                yield f"{letter} is told by {self.by}"
+            if total and ((total[0] == 0) != (total[1] == 0) or not total[1] <= total[0] <= self.asked):
+                yield f"{letter} has fewer orders than classes, or more than are asked for"
+            if letter in self.letters() and self.has_classes:
+                yield from self.wrong_total(letter, total)
+
+    def wrong_total(self, letter, total):
+        """Of results, some orders have S or R and others not."""
+        having = [row.orders for row in self.rows if letter in row.letters]
+        if not total:
+            if letter != "R" or having:
+                yield f"{letter} is not told, or has a class"
+        elif total[1] != len(having) or (total[0] != sum(having) and not (self.by_result and letter in "SR")):
+            yield f"{letter} has not so many orders or classes as its rows"
+        elif not len(having) <= total[0] <= sum(having):
+            yield f"{letter} has more orders than its rows, or not one in each"
+
+    def wrong_letters(self, row):
+        """The characters stand for the letters, and for those that its order tells."""
+        if len(row.shown) != len(self.letters()) or any(one not in (letter, ".") for one, letter in zip(row.shown, self.letters())):
+            yield f"{row.shown} has not the letters in their places"
+        # Results, and classes of orders that clients can send, have no place for some letters.
+        if any((letter in row.shown) != is_so for letter, is_so in row.letters_told() if letter in self.letters()):
+            yield f"{row.shown} is not what the order of rank {row.first_rank} tells"
+
+    def wrong_order(self, row):
+        """Each session is told its steps of the order. Without permutation lines an order has each step once, or ends where the others cannot be sent."""
+        order = row.value["order"]
+        own = [[step for step in order if self.steps[step]["session"] == session] for session in range(len(self.value["sessions"]))]
+        named = [[*filter(None, map(step_named, lines))] for lines in row.transcripts]
+        # What books tell need not be true.
+        if not self.of_books and named != [[self.steps[step]["name"] for step in steps] for steps in own]:
+            yield f"the order of rank {row.first_rank} has other steps than its sessions are told"
+        if self.totals["R"] and any(steps != [step for step, one in enumerate(self.steps) if one["session"] == at][: len(steps)] for at, steps in enumerate(own)):
+            yield f"the order of rank {row.first_rank} has not the first steps of each session"
+        waiting = {session for session, standing in row.value.get("open", []) if standing == WAITS}
+        short = {self.steps[step]["session"] for step in {*range(len(self.steps))} - {*order}}
+        if self.totals["R"] and not self.by_result and short - waiting:
+            yield f"the order of rank {row.first_rank} ends where a step can be sent"
+
+    def wrong_ends(self, row):
+        """Final rows of the same tables, sessions that stand somehow, and what each query sees: rows and their number, or an error."""
+        sessions = [session for session, _standing in row.value.get("open", [])]
+        if sessions != sorted({*sessions}) or any(standing not in LEFT_IN for _session, standing in row.value.get("open", [])):
+            yield f"sessions have not ended otherwise than there is a way, or twice, at rank {row.first_rank}"
+        names = [[table["table"] for table in one.value.get("final_rows", [])] for one in (row, self.rows[0])]
+        if names[0] != names[1]:
+            yield f"other tables have final rows at rank {row.first_rank}"
+        for lines in row.value["query_rows"]:
+            is_rows = lines[-1:] == [f"rows {len(lines) - 1}"] and all(line.startswith("row ") for line in lines[:-1])
+            if not is_rows and lines != [LINES[OUT_OF_RANGE]]:
+                yield f"a query sees {lines}"
+        if len(row.value["query_rows"]) != len(self.queries):
+            yield f"more or fewer queries at rank {row.first_rank}"
+
+    def wrong_ranges(self):
+        """Ranges rise and do not touch, have as many ranks as the class has orders, and no rank is in two classes."""
+        ends = sorted(one for row in self.rows for one in row.ranges())
+        if any(first <= last for (_first, last), (first, _last) in zip(ends, ends[1:])) or any(last >= self.orders for _first, last in ends):
+            yield "ranges of two classes have a rank in common, or one that there is not"
+        for row in self.rows:
+            ranges = row.ranges()
+            rises = all(last + 1 < first for (_first, last), (first, _last) in zip(ranges, ranges[1:]))
+            if ranges and (ranges[0][0] != row.first_rank or not rises or sum(last - first + 1 for first, last in ranges) != row.orders):
+                yield f"{ranges} are no ranges of the class of rank {row.first_rank}"
 
     def wrong_rows(self):
-        if [row.front[0] for row in self.rows] != [str(number) for number in range(1, self.groups + 1)]:
-            yield "classes are not numbered"
-        if any(len(row.shows) != len(self.letters) for row in self.rows):
-            yield "not each letter has its place"
-        if self.legend != [LEGEND]:
-            yield "another last line"
-        yield from wrong_leasts(self.rows, self.asked, not self.has_filters)
+        ranks = [row.first_rank for row in self.rows]
+        # The permutation of rank 0 may drop a step where another one can be sent: then no order that clients can send begins it.
+        has_rank_0 = self.asked == self.orders and (self.of_books or self.totals["R"] is None or self.totals["N"] is not None)
+        if ranks != sorted({*ranks}) or (has_rank_0 and ranks[:1] != [0]):
+            yield "first ranks do not rise, or not from 0"
+        if sum(row.orders for row in self.rows) != self.asked:
+            yield "all orders asked for are not so many as the classes have"
+        yield from self.wrong_ranges()
+        for row in self.rows:
+            yield from self.wrong_letters(row)
+            yield from self.wrong_order(row)
+            yield from self.wrong_ends(row)
+        if len({row.alike() for row in self.rows}) < len(self.rows):
+            yield "two classes are the same"
 
-    def wrong_shares(self):
-        told = [row.front[1:3] for row in self.rows] + [(columns[0], columns[1]) for columns in self.letters.values() if NOT_TOLD not in columns]
-        for orders, part in told:
-            tens, whole = 0 if part == NO_ORDERS else int(part.replace(".", "")), 1000 * int(orders)
-            is_least = tens == 1 and 0 < whole < self.orders
-            if not (0 <= whole - tens * self.orders < self.orders or is_least) or (tens == 0) != (orders == "0"):
-                yield f"{part} is no share of {orders}"
-
-    def wrong_words(self):
-        """A word stands for one where its number is 1, and for several else."""
-        told = [(self.orders, self.is_of_one[0]), (self.groups, self.is_of_one[1]), *((one.orders, one.is_of_one) for one in self.expected)]
-        if any((number == 1) != is_of_one for number, is_of_one in told):
-            yield "a word is that of another number"
+    def held_by_rows(self, one):
+        """In how many orders an expectation holds by what a query of the same SELECT sees, and the first one in which it does not."""
+        place = self.queries.index(one["select"])
+        missing = [row for row in self.rows if not row.sees(place, one["values"])]
+        return self.asked - sum(row.orders for row in missing), missing[0].first_rank if missing else None
 
     def wrong_expectations(self):
-        for one in self.expected:
-            if one.orders != self.asked or (one.first is None) != (one.as_expected == self.asked):
-                yield "an expectation is of other orders, or has a first order where it has none"
+        for one in self.expectations:
+            if (one["first"] is None) != (one["holds_in"] == self.asked) or not 0 <= one["holds_in"] <= self.asked:
+                yield "an expectation has a first order where it has none, or holds in other orders"
+            if self.has_classes and one["first"] is not None and one["first"] not in [row.first_rank for row in self.rows]:
+                yield "the first order that is not as expected is no first one of a class"
+            if self.has_classes and one["select"] in self.queries and self.held_by_rows(one) != (one["holds_in"], one["first"]):
+                yield f"{one} is told otherwise than a query sees it"
+
+    def wrong_missing(self):
+        """Of books: all orders are known or missing, and no class has the first that is missing. Nothing is queried or expected."""
+        missing = self.value["missing"] or {"orders": 0, "first": None}
+        if [*missing] != ["orders", "first"] or self.asked + missing["orders"] != self.orders or (missing["orders"] == 0) != (missing["first"] is None):
+            yield "orders that are known and those that are missing are not all orders"
+        if any(first <= missing["first"] <= last for row in self.rows for first, last in row.ranges() if missing["first"] is not None):
+            yield "the first rank that is missing has a class"
+        if self.queries or self.expectations or any(row.value["query_rows"] for row in self.rows):
+            yield "books are queried, or something is expected of them"
 
     def wrong(self, status):
-        lines = [*self.expected_lines, *self.letter_lines, *(line for row in self.rows for line in [*row.order, *row.besides_outcome()])]
-        # Lines of letters are not broken. They are wider where a number of orders has ten digits.
-        narrow = [line for line in lines if line not in self.letter_lines or self.orders < 10**9]
-        if any(line.endswith(" ") or {*map(ord, line)} & HIDDEN for line in lines) or any(len(line) > WIDTH for line in narrow):
-            yield "a line ends with a blank, is too long, or shows what is not seen"
-        if "" in lines:
-            yield "two empty lines stand where one belongs"
-        if "".join(self.letters) != self.letters_told():
-            yield "other letters"
-        if status != any(one.first is not None for one in self.expected):
+        if status != any(one["first"] is not None for one in self.expectations):
             yield "another status"
-        if self.has_rows != bool(self.rows) or (self.asked == 0) != (self.groups == 0):
-            yield "a table without classes"
-        yield from self.wrong_words()
-        yield from self.wrong_shares()
+        yield from self.wrong_text()
+        yield from self.wrong_members()
+        yield from self.wrong_totals()
         yield from self.wrong_expectations()
-        yield from wrong_ranges(self.rows)
-        if self.has_rows:
-            yield from self.wrong_rows()
-            yield from self.wrong_letters()
+        yield from self.wrong_missing() if self.of_books else ()
+        yield from self.wrong_rows() if self.has_classes else ()
 
-    # what it shows
+    # what it tells
 
     def kinds(self):
         """In words to be counted."""
-        yield "a text by answers" if self.by_answers else "a text"
-        yield from (f"{letter}: {WORDS[letter]}" for letter, columns in self.letters.items() if columns[0] not in (NO_ORDERS, NOT_TOLD))
-        besides = {line.split(" ")[0] for row in self.rows for line in row.besides}
+        yield {BY_ANSWERS: "JSON by results", BY_OUTCOMES: "JSON of books"}.get(self.by, "JSON")
         found = {
-            "R is not told": NOT_TOLD in self.letters.get("R", []),
-            "an order of several lines": any(len(row.order) > 1 for row in self.rows),
+            "all permutations": not self.of_books and self.totals["N"] is not None,
+            "R is not known": not self.of_books and self.totals["R"] is None,
+            "a character by its number": "\\u00" in self.text,
+            "a character behind a backslash": bool(re.search(r"\\[^u]", self.text)),
+            "brief": not self.has_classes,
+            "lines of levels": bool(self.value["level_lines"]),
+            "no order": self.asked == 0,
+            "some orders": 0 < self.asked < self.orders,
+            "holds in no order": any(one["holds_in"] == 0 < self.asked for one in self.expectations),
+            "holds in some orders": any(0 < one["holds_in"] < self.asked for one in self.expectations),
+            "holds in all orders": any(one["holds_in"] == self.asked > 0 for one in self.expectations),
+            "ranks": self.has_ranks,
+            "a session that has not ended": any(row.value.get("open") for row in self.rows),
+            "an order that is shorter than all steps": any(self.totals["R"] and len(row.value["order"]) < len(self.steps) for row in self.rows),
+            "a query": bool(self.queries),
+            "a query that fails": any([LINES[OUT_OF_RANGE]] in row.value["query_rows"] for row in self.rows),
+        }
+        yield from (f"JSON: {word}" for word, is_so in found.items() if is_so)
+        yield from (f"JSON: {letter}" for letter, total in self.totals.items() if total and total[0])
+
+
+# ---- the text, alone and beside the JSON of the same classes
+
+
+class ReadText:
+    """A text as it is read back."""
+
+    def __init__(self, out):
+        self.text, self.lines = out, out.removesuffix("\n").split("\n")
+        self.head = HEAD.fullmatch(self.lines[0])
+        if not self.head:
+            raise ValueError(f"no head: {self.lines[0]}")
+        self.asked, self.orders, self.classes = number(self.head[2] or self.head[3]), number(self.head[3]), number(self.head[5])
+        self.totals = {one[1]: one for line in self.lines if (one := TOTAL.fullmatch(line))}
+        self.rows = [one for line in self.lines if (one := ROW.fullmatch(line))]
+        self.expectations = [number(one[1]) for line in self.lines if (one := HOLDS.fullmatch(line) or FAILED.fullmatch(line))]
+        self.is_failed = any(FAILED.fullmatch(line) for line in self.lines)
+        # An order's outcome has texts as they are.
+        self.has_outcomes = any(line.startswith(f"{BENEATH}session ") for line in self.lines)
+
+    def wrong(self, status):
+        """What is wrong with its form."""
+        if status != self.is_failed:
+            yield "another status"
+        if (self.head[4] == "order") != (self.orders == 1) or (self.head[6] in ("class", "result")) != (self.classes == 1):
+            yield "the head has a word for one where there are several, or for several where there is one"
+        if not self.has_outcomes and any(line.endswith(" ") or {*map(ord, line)} & HIDDEN for line in self.lines):
+            yield "a line ends with a blank, or shows what is not seen"
+        if not self.has_outcomes and (not self.text.endswith("\n") or "\n\n\n" in self.text or self.text.endswith("\n\n")):
+            yield "an empty line stands where none belongs"
+        if self.rows and [int(row[1]) for row in self.rows] != [*range(1, self.classes + 1)]:
+            yield "classes are not numbered"
+        # A name in quotes may have blanks and marks of its own.
+        steps = [step for row in self.rows if '"' not in row[6] for step in row[6].split(" ")]
+        marks = {mark for step in steps for mark in step[len(step.rstrip("-:!")) :]}
+        if any(f"{mark} {word}" not in self.lines[-1] for mark, word in MEANINGS.items() if mark in marks):
+            yield "a mark is not explained"
+        if sum(bool(LEVELS.fullmatch(line)) for line in self.lines) > 1:
+            yield "levels are told twice"
+
+    def level_lines(self):
+        found = LEVELS.fullmatch(self.lines[1])
+        return [int(one) for one in found[1].split(", ")] if found else []
+
+    def missing(self):
+        """How many orders are missing, and the first of them; nothing where none is."""
+        found = MISSING.fullmatch(self.head[8] or "")
+        return found and {"orders": number(found[1] or found[3]), "first": int(found[2] or found[4])}
+
+    def kinds(self):
+        """In words to be counted."""
+        yield "a text by results" if self.head[6].startswith("result") else "a text"
+        found = {
+            "all permutations": "all permutations" in (self.head[7] or ""),
+            "R is not known": "R" in self.totals and self.totals["R"][2] == "-",
+            "levels": bool(self.level_lines()),
+            "missing orders": bool(self.head[8]),
+            "brief": not self.rows and self.classes > 0,
+            "no order": self.asked == 0,
+            "filters": "--" in (self.head[7] or ""),
+            "a share that is not told": "<0.1%" in self.text,
             "a name that is cut": "~" in self.text,
             "a character by its number": "\\u{" in self.text,
-            "a share of 0.1": " 0.1 " in self.text,
-            "100 classes and more": self.groups > 99,
-            "one class": self.groups == 1,
-            "brief": not self.has_rows and self.groups > 0,
-            f"{self.leaves_out}: no order": self.has_filters and self.asked == 0,
-            f"{self.leaves_out}: some orders": self.has_filters and 0 < self.asked < self.orders,
-            f"{self.leaves_out}: all orders": self.has_filters and self.asked == self.orders,
-            "expected: so in no order": any(one.as_expected == 0 < one.orders for one in self.expected),
-            "expected: so in some orders": any(0 < one.as_expected < one.orders for one in self.expected),
-            "expected: so in all orders": any(one.as_expected == one.orders > 0 for one in self.expected),
-            "expected: a first order at a rank behind 0": any(one.first for one in self.expected),
-            "ranks": "ranks" in besides,
-            "ranks of several lines": any(len(row.range_lines()) > 1 for row in self.rows),
-            "outcomes": any(row.outcome() for row in self.rows),
-            "outcomes: a character that is not seen": any({*map(ord, line)} & HIDDEN for row in self.rows for line in row.outcome()),
-            "what is left": "left" in besides,
-            "nothing is left": any(line == NOTHING for row in self.rows for line in row.besides),
-            "a session that has not ended": any(line.endswith(NOT_ENDED) for row in self.rows for line in row.besides),
-            "a look": "look" in besides,
-            "a look that fails": any(line == "  error: integer out of range" for row in self.rows for line in after_look(row)),
+            "100 classes and more": self.classes > 99,
+            "a thousand and more": self.orders > 999,
+            "an expectation that holds": any(HOLDS.fullmatch(line) for line in self.lines),
+            "an expectation that fails": self.is_failed,
+            "outcomes": self.has_outcomes,
         }
-        yield from (word for word, is_so in found.items() if is_so)
+        yield from (f"text: {word}" for word, is_so in found.items() if is_so)
 
 
-def expectations(lines):
-    """The expectations of a part. A SELECT or a value that looks like such a line stands behind more than two blanks or none."""
-    found = []
-    for line in lines:
-        if so := AS_EXPECTED.fullmatch(line):
-            found.append(Expectation(int(so[1]), int(so[2]), so[3] in ONES))
-        elif first := FIRST_NOT_SO.fullmatch(line):
-            found[-1].first = int(first[1])
-    return found
+def share_of(orders, of):
+    """A share by another arithmetic than that of `classes.py`."""
+    part = (Decimal(100 * orders) / of).quantize(Decimal("0.1"), ROUND_HALF_UP) if of else Decimal("0.0")
+    return "<0.1%" if orders and not part else f"{part}%"
 
 
-def rows_of(parts):
-    """The rows of a table of classes, which stands in the first part and, where something is told beneath orders, in more of them."""
-    rows, column = [], len(parts[0][0]) - len("order") if parts else 0
-    for number, part in enumerate(parts):
-        is_order = False
-        for line in part[number == 0 :]:
-            if front := ROW.fullmatch(line[:column]):
-                rows.append(Row(front.groups(), [line[column:]]))
-                is_order = True
-            elif is_order:
-                rows[-1].order.append(line[column:])
-            else:
-                rows[-1].besides.append(line)
-    return rows
+def wrong_beside(text, read, is_brief):
+    """What a text tells otherwise than the JSON of the same words."""
+    value = read.value
+    if (text.asked, text.orders, text.classes) != (value["asked"], value["orders"], len(value["classes"])):
+        yield "the head has other numbers than the JSON"
+    if text.level_lines() != value["level_lines"] or text.missing() != value.get("missing"):
+        yield "the head has other lines of levels, or other missing orders"
+    if [letter for letter, one in text.totals.items() if one[2] != "-"] != [letter for letter, total in read.totals.items() if total is not None]:
+        yield "the totals have other letters than the JSON"
+    for letter, total in read.totals.items():
+        line = text.totals.get(letter)
+        if total is not None and line and (number(line[2]), line[3], number(line[4])) != (total[0], share_of(total[0], read.asked), total[1]):
+            yield f"the total of {letter} is another one than that of the JSON"
+    told = [one["holds_in"] if one["first"] is None else read.asked - one["holds_in"] for one in read.expectations]
+    if text.expectations != told:
+        yield "expectations are told otherwise than in the JSON"
+    rows = [(row.orders, share_of(row.orders, read.asked), row.shown, row.first_rank) for row in read.rows]
+    if not is_brief and [(number(row[2]), row[3], row[4], int(row[5])) for row in text.rows] != rows:
+        yield "the rows are others than those of the JSON"
 
 
-def after_look(row):
-    """The lines beneath a row from the first look on."""
-    first = next((number for number, line in enumerate(row.besides) if line.startswith(OF_LOOK)), len(row.besides))
-    return row.besides[first:]
+# ---- whatever it is
+
+
+def read_back(out):
+    """What `isofarm classes` printed: a text, an object, or the object of a page that a browser opens."""
+    text = objects_in(out.decode())[0] if out.startswith(DOCTYPE) else out.decode()
+    return (ReadObject if text.startswith(FRONT.decode()) else ReadText)(text)
+
+
+def kinds_of(out):
+    return ["page of a browser"] * out.startswith(DOCTYPE) + [*read_back(out).kinds()]

@@ -1,58 +1,100 @@
-"""The JSON of what is asked of a spec's classes, or of those of books, from their page (`classes.py`, `book_classes.py`)."""
+"""The JSON of the classes of orders, and the page that a browser opens, from the page of a spec or of books (`classes.py`, `book_classes.py`)."""
 
-from shown import json_text, lines_value, open_value, steps_value, tables_value
+from functools import cache
+from pathlib import Path
+from subprocess import run
+from tempfile import TemporaryDirectory
 
+from class_request import BRIEF, RANKS
+from shown import Order, json_text, lines_value, open_value, show_json, steps_value, tables_value
+
+FORMAT, LETTERS = 2, "WDENSR"
 # By what orders are grouped.
 BY_SHOWS, BY_ANSWERS, BY_OUTCOMES = "shows", "answers", "outcomes"
+MAKE = Path(__file__).resolve().parent.parent / "page" / "make"
+# Of so many classes a page has the first order.
+MOST_SHOWN = 1_000
 
 
-def expected_value(page, one):
+# ---- JSON
+
+
+def expectation_value(page, one):
     missing = page.missing(one)
-    return {"select": one.select, "values": one.values, "met": page.as_expected(missing), "first": missing[0].least if missing else None}
+    return {"select": one.select, "values": one.values, "holds_in": page.holds_in(one), "first": missing[0].first_rank if missing else None}
 
 
-def class_value(page, group):
-    spec, asked, one = page.classes.spec, page.asked, group.one
+def class_value(page, one):
+    spec, ending = page.classes.spec, one.ending
     value = {
-        "least": group.least,
-        "orders": group.orders,
-        "shows": page.letters_of(group),
-        "order": spec.line(group.least),
-        "told": [lines_value(spec, events) for events in one.told],
+        "first_rank": one.first_rank,
+        "orders": one.orders,
+        "letters": page.letters_of(one),
+        "order": page.classes.first_order(one),
+        "transcripts": [lines_value(spec, events) for events in ending.transcripts],
     }
     if page.by != BY_OUTCOMES:
-        value["left"] = tables_value(one.left)
+        value["final_rows"] = tables_value(ending.final_rows)
     if page.by == BY_SHOWS:
-        value["open"] = open_value(one.standing)
-    value["seen"] = [lines_value(spec, page.classes.seen(text, group)) for text in asked.looks]
-    if asked.has_ranks:
-        value["ranks"] = group.ranges
+        value["open"] = open_value(ending.standing)
+    value["query_rows"] = [lines_value(spec, page.classes.seen(text, one)) for text in page.request.queries]
+    if page.request.has(RANKS):
+        value["ranks"] = one.ranges
     return value
 
 
 def missing_value(page):
-    """How many orders are missing, and the first of them; none where none is."""
-    return {"orders": page.orders_missing, "first": page.first_missing} if page.orders_missing else None
+    """How many orders no book tells, and the first of them; none where all are told."""
+    return {"orders": page.orders_missing, "first": page.classes.first_missing} if page.orders_missing else None
 
 
 def classes_value(page, statements):
     """What stands in the object, beside these statements of each step."""
-    spec, asked = page.classes.spec, page.asked
-    value = {"format": 1, "name": page.path, "orders": page.orders, "asked": page.orders_asked}
+    spec, request = page.classes.spec, page.request
+    value = {"format": FORMAT, "name": page.path, "orders": page.classes.orders, "asked": page.orders}
     if page.by == BY_OUTCOMES:
         value["missing"] = missing_value(page)
     value |= {
         "sessions": spec.session_names,
         "steps": steps_value(spec, statements),
+        "level_lines": [*page.lines_with_levels],
         "by": page.by,
-        "totals": page.totals(),
-        "expected": [expected_value(page, one) for one in asked.expected],
-        "looks": asked.looks,
+        "totals": {letter: page.total(letter) for letter in LETTERS},
+        "expectations": [expectation_value(page, one) for one in request.expectations],
+        "queries": request.queries,
     }
-    if not asked.is_brief:
-        value["classes"] = [class_value(page, group) for group in page.groups]
+    if not request.has(BRIEF):
+        value["classes"] = [class_value(page, one) for one in page.rows]
     return value
 
 
 def classes_json(page, statements):
     return json_text(classes_value(page, statements)) + "\n"
+
+
+# ---- the page that a browser opens: the JSON of classes and of their first orders, between parts that are the same on each page
+
+
+@cache
+def parts():
+    """What is the same on each page, by the names of the parts: as the page's own files have it, and not the program."""
+    with TemporaryDirectory() as folder:
+        run([MAKE, "parts", folder], check=True, stdout=2)
+        return {path.name: path.read_text() for path in Path(folder).iterdir()}
+
+
+def page_html(text, path, classes, ranks):
+    """The page of a spec's text with the JSON of its classes, and that of the orders of these ranks."""
+    part = parts()
+    objects = [show_json(Order(text, path, rank)).removesuffix("\n") for rank in ranks[:MOST_SHOWN]]
+    data = part["between"].join([classes.removesuffix("\n"), *objects])
+    return part["front"] + part["style"] + part["middle"] + data + part["back_begin"] + part["script"] + part["back_end"]
+
+
+def objects_in(page):
+    """What stands in a page: the JSON of classes and that of each order, each with a line feed as it is printed alone. None where it is no page."""
+    part = parts()
+    front, back = part["front"] + part["style"] + part["middle"], part["back_begin"] + part["script"] + part["back_end"]
+    if not (page.startswith(front) and page.endswith(back)):
+        return None
+    return [f"{one}\n" for one in page[len(front) : len(page) - len(back)].split(part["between"])]

@@ -1,358 +1,303 @@
-"""What `isofarm classes` prints: all orders of a spec, or those that pass filters, grouped by what they show or by what they answer.
+"""What `isofarm classes` prints: the orders that clients can send, or all permutations, in classes or by their results.
 
 usage: python3 crosscheck/classes.py SPEC [FLAG..]
 
-The flags are those of `isofarm classes` (`asked.py`). Each order is run on the machine of `machine.py`, from the world behind the steps that
-its line shares with the line before.
+The flags are those of `class_request.py`. Orders are counted by `schedules.py`: by layers of states, and the lines of a file with permutation
+lines one by one. The text is that of a pipe or a file: a class has one line, however wide that is.
 """
 
 import sys
 from collections import Counter
 from dataclasses import dataclass
 from functools import cached_property
-from itertools import groupby
 from pathlib import Path
 
-from asked import LEFT, OUTCOMES, NotAsked, NoWords, asked_by
 from binding import bind
-from class_values import BY_ANSWERS, BY_SHOWS, classes_json
-from facts import shared
-from looks import NoLook, look_of, seen
-from machine import DEADLOCK, DUPLICATE, OUT_OF_RANGE, UNAVAILABLE, outcome_text, printed, start
-from moments import WAITS, rows_left, shown, standing_of
-from opened import page_html
+from class_request import ALL_ORDERS, BRIEF, BY_RESULT, FINAL_ROWS, HTML, JSON, OUTCOMES, NotAsked, NoWords, request_of
+from class_values import BY_ANSWERS, BY_SHOWS, classes_json, page_html
+from machine import LINES, outcome_lines
+from moments import shown
 from orders import spelled
+from queries import NoQuery, query_of, rows_in, seen
 from refusal import Refusal
-from shown import WIDTH, broken, cut, left_lines, marks, statements_of, visible, word_of
+from schedules import Ending, by_layers, in_order, one_by_one, serial_results
+from shown import LEFT_IN, cut, level_lines, lines_with_levels, marks, row_text, statements_of, visible
 from spec_file import read_spec
 
-# The words of events that answer, as in the value of an outcome.
-ANSWERING = {"row", "rows", "inserted", "updated", "deleted", "failed"}
 WORDS = {
     "W": "a session waits",
-    "D": "a session loses a deadlock",
-    "E": "another error of its own",
-    "N": "a step is not sent, since its session waits",
-    "S": "a session still waits at the end",
-    "R": "anomaly: no serial order gives this result",
+    "D": "a session is the victim of a deadlock",
+    "E": "another error",
+    "N": "a step is not sent: its session waits",
+    "S": "a session waits for ever",
+    "R": "anomaly: no error, yet no serial order gives this result",
 }
-OF_SHOWS, OF_ANSWERS, OF_BOOKS = "WDENSR", "DESR", "WDEN"
-LEAST_ORDERS, OF_SHARE, LEAST_CLASSES, LEAST_LETTERS, LEAST_RANK = 6, 9, 7, 5, 4
+NOT_KNOWN = "anomaly: not known for permutation lines"
+OF_SENT, OF_ALL, OF_RESULTS = "WDESR", "WDENSR", "DESR"
+MEANINGS = {":": "waits", "!": "fails", "-": "is not sent"}
 OF_NAME = 24
-NOTHING = "nothing"
-LEGEND = "the order of the least rank, with marks: : waits   ! fails   - is not sent"
-
-
-# ---- what an order shows
-
-
-@dataclass(frozen=True)
-class Shows:
-    """What an order shows: the events of each session, the rows left of each table, how each session stands at the end."""
-
-    told: tuple
-    left: tuple
-    standing: tuple
-
-    @cached_property
-    def answer(self):
-        """The part of it that is an answer."""
-        return tuple(tuple(event for event in events if word_of(event) in ANSWERING) for events in self.told), self.left
-
-    def letters(self):
-        """The letters but for R, which is told by other orders too."""
-        events = {event for told in self.told for event in told}
-        has = {
-            "W": "waiting" in events,
-            "D": DEADLOCK in events,
-            "E": not events.isdisjoint({DUPLICATE, OUT_OF_RANGE, UNAVAILABLE}),
-            "N": "notsent" in map(word_of, events),
-            "S": WAITS in self.standing,
-        }
-        return {letter for letter, is_so in has.items() if is_so}
-
-
-def shows_of(world):
-    left = tuple((name, tuple(map(tuple, rows))) for name, rows in rows_left(world))
-    sessions = range(len(world.spec.session_names))
-    return Shows(tuple(map(tuple, world.outcome())), left, tuple(standing_of(world, session) for session in sessions))
-
-
-def shows(spec):
-    """Each order's line with what it shows, in the order of the ranks. Raises a Refusal where the spec does not start."""
-    worlds, before = [start(spec)], []
-    for rank in range(spec.ranks()):
-        line = spec.line(rank)
-        common = shared(before, line)
-        del worlds[common + 1 :]
-        for step in line[common:]:
-            worlds.append(worlds[-1].fork())
-            worlds[-1].send(step)
-        yield line, shows_of(worlds[-1])
-        before = line
-
-
-def is_serial(spec, line):
-    """Whether all steps of each session stand one behind the other."""
-    sessions = [session for session, _steps in groupby(line, lambda step: spec.steps[step][0])]
-    return len(sessions) == len({*sessions})
+BENEATH = " " * 10
 
 
 # ---- classes
 
 
 @dataclass
-class Class:
-    """Orders of one kind: what the first of them shows, how many they are, each letter with how many of them have it, and their ranks.
+class OrderClass:
+    """Orders of one ending or of one result: how the first of them ends, how many they are, the least rank, and how many have each letter."""
 
-    The ranks are ranges, each with its first and its last one, of which no two touch."""
-
-    one: Shows
+    ending: Ending
     orders: int
+    first_rank: int
     letters: Counter
-    ranges: list
+
+
+class OrderClasses:
+    """The classes of a spec: of the orders that clients can send, or of all permutations. Of a file with permutation lines those of its lines."""
+
+    def __init__(self, spec, all_orders):
+        self.spec, self.all_orders, self.known = spec, all_orders, {}
+        self.is_lined = spec.lines is not None
+        self.serial = set() if self.is_lined else serial_results(spec)
+        self.endings = in_order((one_by_one if self.is_lined else by_layers)(spec, all_orders))
+        self.all = [self.of_ending(ending, counted) for ending, counted in self.endings.items()]
 
     @property
-    def least(self):
-        return self.ranges[0][0]
+    def orders(self):
+        return sum(one.orders for one in self.all)
+
+    def of_ending(self, ending, counted):
+        letters = ending.letters | ({"R"} if not self.is_lined and ending.is_anomaly(self.serial) else set())
+        return OrderClass(ending, counted.orders, counted.first_rank, Counter(dict.fromkeys(letters, counted.orders)))
+
+    def asked(self, request):
+        """The classes, or results, of the orders that pass the filters, by their least ranks."""
+        passing = [one for one in self.all if request.passes(self.spec, one)]
+        return by_result(passing) if request.has(BY_RESULT) else passing
+
+    def first_order(self, one):
+        """The steps of the order of the least rank."""
+        return self.spec.line(one.first_rank)[: one.ending.steps()]
+
+    def steps(self, one):
+        """The names of the steps of a class's first order, each cut, with its marks."""
+        if one.first_rank not in self.known:
+            order = self.first_order(one)
+            self.known[one.first_rank] = with_marks(self.spec, order, marks(shown(self.spec, order).moments))
+        return self.known[one.first_rank]
+
+    def seen(self, text, one):
+        """The events of a query on the final rows of a class."""
+        place = text, one.ending.final_rows
+        if place not in self.known:
+            self.known[place] = seen(self.spec, query_of(self.spec, text), one.ending.final_rows)
+        return self.known[place]
 
 
-def add_rank(ranges, rank):
-    """Adds a rank that lies behind all of these ranges."""
-    if ranges and ranges[-1][1] == rank - 1:
-        ranges[-1][1] = rank
-    else:
-        ranges.append([rank, rank])
-
-
-def joined(ranges):
-    """Ranges in their order, those that touch as one."""
-    whole = []
-    for first, last in sorted(ranges):
-        if whole and whole[-1][1] == first - 1:
-            whole[-1][1] = last
-        else:
-            whole.append([first, last])
-    return whole
-
-
-class Classes:
-    """The orders of a spec, grouped by what they show."""
-
-    def __init__(self, spec):
-        self.spec, self.marked, self.sights = spec, {}, {}
-        ranges, serial = {}, set()
-        for rank, (line, one) in enumerate(shows(spec)):
-            add_rank(ranges.setdefault(one, []), rank)
-            if spec.lines is None and is_serial(spec, line):
-                serial.add(one.answer)
-        self.of_shows = {one: self.group(one, its_ranges, serial) for one, its_ranges in ranges.items()}
-
-    def group(self, one, ranges, serial):
-        letters, orders = one.letters(), sum(last - first + 1 for first, last in ranges)
-        is_through = letters.isdisjoint({"D", "E", "N", "S"})
-        letters |= {"R"} if self.spec.lines is None and is_through and one.answer not in serial else set()
-        return Class(one, orders, Counter(dict.fromkeys(letters, orders)), ranges)
-
-    def groups(self, asked):
-        """The classes of the orders that are asked for, in the order of their least ranks."""
-        passing = [group for one, group in self.of_shows.items() if asked.passes(self.spec, one.told, group.letters)]
-        return by_answers(passing) if asked.by_answers else passing
-
-    def steps(self, least):
-        """The names of an order's steps, each cut, with its marks."""
-        if least not in self.marked:
-            line = self.spec.line(least)
-            self.marked[least] = with_marks(self.spec, line, marks(shown(self.spec, line).moments))
-        return self.marked[least]
-
-    def seen(self, text, group):
-        """The events of a look at what the orders of a class leave."""
-        place = text, group.one.left
-        if place not in self.sights:
-            self.sights[place] = seen(self.spec, look_of(self.spec, text), group.one.left)
-        return self.sights[place]
-
-
-def with_marks(spec, line, its_marks):
-    """The names of a line's steps, each cut, with its marks."""
-    names = [cut(visible(spelled(spec.step_names[step])), OF_NAME) for step in line]
+def with_marks(spec, order, its_marks):
+    """The names of an order's steps, each cut, with its marks."""
+    names = [cut(visible(spelled(spec.step_names[step])), OF_NAME) for step in order]
     return ["".join(one) for one in zip(names, its_marks, strict=True)]
 
 
-def by_answers(groups):
-    """The same orders by what they answer."""
+def by_result(classes):
+    """The same orders by their results."""
     joint = {}
-    for group in groups:
-        joint.setdefault(group.one.answer, []).append(group)
+    for one in classes:
+        joint.setdefault(one.ending.result, []).append(one)
     return [
-        Class(
-            several[0].one,
-            sum(group.orders for group in several),
-            sum((group.letters for group in several), Counter()),
-            joined(pair for group in several for pair in group.ranges),
-        )
+        OrderClass(several[0].ending, sum(one.orders for one in several), several[0].first_rank, sum((one.letters for one in several), Counter()))
         for several in joint.values()
     ]
 
 
-# ---- the text
+# ---- numbers and columns
+
+
+def number(count):
+    return f"{count:,}"
+
+
+def number_of(count, one, more):
+    return f"{number(count)} {one if count == 1 else more}"
 
 
 def share(orders, of):
-    tens = max(1, 1000 * orders // of)
-    return f"{tens // 10}.{tens % 10}" if orders else "0"
+    """A part of all orders in percent, rounded to one place; a half is rounded up."""
+    tenths = (2000 * orders + of) // (2 * of) if of else 0
+    return "<0.1%" if orders and not tenths else f"{tenths // 10}.{tenths % 10}%"
 
 
-def digits(number):
-    return len(str(number))
+def table_lines(rows, to_right):
+    """Rows of cells in columns with two blanks between, each but the last one as wide as its widest cell. Those that are named go to the right."""
+    widths = [max(map(len, column)) for column in zip(*rows, strict=True)][:-1]
+    for *cells, last in rows:
+        pairs = enumerate(zip(cells, widths, strict=True))
+        fronts = [cell.rjust(width) if place in to_right else cell.ljust(width) for place, (cell, width) in pairs]
+        yield "  ".join([*fronts, last]).rstrip(" ")
 
 
-def number_of(number, one, more):
-    return f"{number} {one if number == 1 else more}"
+# ---- the page
 
 
-def ranges_text(ranges):
-    return " ".join(f"{first}-{last}" if last > first else f"{first}" for first, last in ranges)
+class ClassPage:
+    """What is asked of the classes of a spec, and its text."""
 
+    def __init__(self, classes, path, request, lines_with_levels=()):
+        self.classes, self.path, self.request, self.lines_with_levels = classes, path, request, lines_with_levels
+        self.rows = classes.asked(request)
+        self.by_result = request.has(BY_RESULT)
+        self.by, self.one, self.more = (BY_ANSWERS, "result", "results") if self.by_result else (BY_SHOWS, "class", "classes")
+        self.letters = self.letters_with_places()
+        self.orders = sum(one.orders for one in self.rows)
 
-class Page:
-    """What is asked of a spec's classes, and its text."""
+    def letters_with_places(self):
+        return OF_RESULTS if self.by_result else OF_ALL if self.classes.all_orders else OF_SENT
 
-    least_classes = LEAST_CLASSES
+    # the head
 
-    def __init__(self, classes, path, asked):
-        self.classes, self.path, self.asked = classes, path, asked
-        self.groups = classes.groups(asked)
-        self.by, self.one, self.more = (BY_ANSWERS, "answer", "answers") if asked.by_answers else (BY_SHOWS, "class", "classes")
-        self.letters = OF_ANSWERS if asked.by_answers else OF_SHOWS
-        self.orders, self.orders_asked = classes.spec.ranks(), sum(group.orders for group in self.groups)
-        self.is_lined = classes.spec.lines is not None
-        self.of_orders = 2 + max(LEAST_ORDERS, digits(self.orders))
+    def remarks(self):
+        """What the head says of the orders behind their numbers."""
+        if self.classes.all_orders:
+            dropped = sum(one.letters["N"] for one in self.rows)
+            yield from ["all permutations"] * (not self.classes.is_lined)
+            if dropped:
+                yield f"{number(dropped)} {'contains' if dropped == 1 else 'contain'} a step that is not sent"
+        if self.request.filters:
+            yield visible(" ".join(one.word for one in self.request.in_place()))
 
-    def may_be_some(self):
-        """Whether orders may be left out of the classes."""
-        return bool(self.asked.filters)
+    def head_lines(self):
+        some = f"{number(self.orders)} of " if self.request.filters else ""
+        orders = number_of(self.classes.orders, "order", "orders")
+        remarks = "; ".join(self.remarks())
+        yield f"{visible(self.path)}: {some}{orders} in {number_of(len(self.rows), self.one, self.more)}" + (f" ({remarks})" if remarks else "")
+        yield from level_lines(self.lines_with_levels)
 
-    def title(self):
-        some = f"{self.orders_asked} of " if self.may_be_some() else ""
-        orders, groups = number_of(self.orders, "order", "orders"), number_of(len(self.groups), self.one, self.more)
-        yield f"{visible(self.path)}: {some}{orders}, {groups}"
-
-    # looks and expectations
-
-    def seen_lines(self, text, group, first, more):
-        """The events of a look, each as the outcome text has it."""
-        for event in self.classes.seen(text, group):
-            yield from broken(visible(printed(self.classes.spec, event).decode()), WIDTH, first, more)
+    # expectations
 
     def missing(self, expected):
-        """The classes whose orders are not as expected, in the order of their least ranks."""
-        return [group for group in self.groups if not expected.is_in(self.classes.seen(expected.select, group))]
+        """The classes whose orders are not as expected."""
+        return [one for one in self.rows if not expected.is_in(self.classes.seen(expected.select, one))]
 
-    def as_expected(self, missing):
-        """How many orders are as expected where those of these classes are not."""
-        return self.orders_asked - sum(group.orders for group in missing)
+    def holds_in(self, expected):
+        """How many orders are as expected."""
+        return self.orders - sum(one.orders for one in self.missing(expected))
 
     def is_as_expected(self):
-        return not any(self.missing(one) for one in self.asked.expected)
+        return not any(self.missing(one) for one in self.request.expectations)
 
-    def expected_lines(self):
-        for one in self.asked.expected:
-            missing = self.missing(one)
-            yield from broken(visible(f"expected of {one.select}: {'|'.join(one.values)}"), WIDTH, 0, 2)
-            yield f"  so in {self.as_expected(missing)} of {number_of(self.orders_asked, 'order', 'orders')}"
-            if missing:
-                rank = missing[0].least
-                yield from broken(f"first not so at rank {rank}: {' '.join(self.classes.steps(rank))}", WIDTH, 2, 4)
-                yield from self.seen_lines(one.select, missing[0], 4, 6)
+    def found(self, expected, one):
+        """What the SELECT of an expectation finds in place of the one row."""
+        events = self.classes.seen(expected.select, one)
+        if events[-1] in LINES:
+            return LINES[events[-1]]
+        rows = ["|".join(row) for row in rows_in(events)]
+        return f"{number(len(rows))} rows, first {rows[0]}" if rows[1:] else rows[0] if rows else "no row"
 
-    # letters
+    def expectation_lines(self):
+        for expected in self.request.expectations:
+            head, missing = f"expect {expected.select} = {', '.join(expected.values)}", self.missing(expected)
+            of = f"of {number_of(self.orders, 'order', 'orders')}"
+            if not missing:
+                yield visible(f"{head}: holds in {number(self.orders)} {of}")
+                continue
+            yield visible(head)
+            yield f"  FAILED in {number(sum(one.orders for one in missing))} {of}"
+            yield f"  first: {' '.join(self.classes.steps(missing[0]))}    (rank {missing[0].first_rank})"
+            yield visible(f"  found: {self.found(expected, missing[0])}")
+
+    # totals
 
     def total(self, letter):
-        """How many orders have a letter, and how many classes; none where it is not told."""
-        if letter not in self.letters or (letter == "R" and self.is_lined):
+        """How many orders have a letter, and how many classes; none where it is not known."""
+        if letter not in self.letters or (letter == "R" and self.classes.is_lined):
             return None
-        return sum(group.letters[letter] for group in self.groups), sum(letter in group.letters for group in self.groups)
+        return sum(one.letters[letter] for one in self.rows), sum(letter in one.letters for one in self.rows)
 
-    def totals(self):
-        return {letter: self.total(letter) for letter in OF_SHOWS}
+    def total_cells(self, letter):
+        total = self.total(letter)
+        if total is None:
+            return [f"  {letter} ", "-", "-", "-", NOT_KNOWN]
+        return [f"  {letter} ", number(total[0]), share(total[0], self.orders), number(total[1]), WORDS[letter]]
 
-    def counted(self, orders, part):
-        return f"{orders:>{self.of_orders}}{part:>{OF_SHARE}}"
-
-    def letter_lines(self):
-        of_classes = 2 + max(self.least_classes, digits(len(self.groups)))
-        yield f"{'':5}{self.counted('orders', 'share %')}{self.more:>{of_classes}}"
-        for letter in self.letters:
-            total = self.total(letter)
-            orders, part, groups = (total[0], share(total[0], self.orders), total[1]) if total else ("-", "-", "-")
-            yield f"    {letter}{self.counted(orders, part)}{groups:>{of_classes}}  {WORDS[letter]}"
+    def total_lines(self):
+        yield from table_lines([["", "orders", "share", self.more, ""], *map(self.total_cells, self.letters)], {1, 2, 3})
 
     # classes
 
-    def letters_of(self, group):
-        """A character for each letter that has a place."""
-        return "".join(letter if letter in group.letters else "-" for letter in self.letters)
+    def letters_of(self, one):
+        """A character for each letter that has a place: the letter, or a point."""
+        return "".join(letter if letter in one.letters else "." for letter in self.letters)
+
+    def class_cells(self, place, one):
+        counted = [number(one.orders), share(one.orders, self.orders)]
+        return [f"{place}", *counted, self.letters_of(one), f"{one.first_rank}", " ".join(self.classes.steps(one))]
 
     def class_lines(self):
-        of_number, of_rank = max(len(self.one), digits(len(self.groups))), 2 + max(LEAST_RANK, digits(self.orders))
-        of_letters = max(LEAST_LETTERS, len(self.letters))
+        if self.rows:
+            head = [self.one, "orders", "share", self.letters, "rank", "first order"]
+            first, *lines = table_lines([head, *(self.class_cells(place, one) for place, one in enumerate(self.rows, 1))], {0, 1, 2, 4})
+            yield first
+            for line, one in zip(lines, self.rows, strict=True):
+                yield line
+                yield from (f"{BENEATH}{told}" for told in self.beneath(one))
 
-        def front(number, counted, letters, rank):
-            return f"{number:>{of_number}}{counted}  {letters:{of_letters}}{rank:>{of_rank}}  "
+    def beneath(self, one):
+        """What stands beneath a class."""
+        spec = self.classes.spec
+        if self.request.has(OUTCOMES):
+            yield from outcome_lines(spec, one.ending.transcripts)
+        if self.request.has(FINAL_ROWS):
+            yield from self.final_lines(one)
+        for text in self.request.queries:
+            yield visible(f"query {text}: {self.query_rows(text, one)}")
 
-        yield front(self.one, self.counted("orders", "share %"), "shows", "rank") + "order"
-        for number, group in enumerate(self.groups, 1):
-            yield from with_steps(
-                front(number, self.counted(group.orders, share(group.orders, self.orders)), self.letters_of(group), group.least),
-                self.classes.steps(group.least),
-            )
-            told = [*self.told_besides(group)]
-            # What is told of the last class has the empty line of the part behind it.
-            yield from ["", *told, *[""] * (number < len(self.groups))] if told else []
+    def final_lines(self, one):
+        """The final rows of each table, and how each session stands that has not ended."""
+        lines = [visible(f"{name}: {rows_text(map(row_text, rows))}") for name, rows in one.ending.final_rows]
+        if not self.by_result:
+            names = map(visible, self.classes.spec.session_names)
+            lines += [f"{name} {LEFT_IN[at]}" for name, at in zip(names, one.ending.standing, strict=True) if at in LEFT_IN]
+        return lines or ["nothing"]
 
-    def told_besides(self, group):
-        """What is told of a class beneath its order."""
-        spec, flags = self.classes.spec, self.asked.flags
-        if self.asked.has_ranks:
-            yield from broken(f"ranks {ranges_text(group.ranges)}", WIDTH, 0, 6)
-        if OUTCOMES in flags:
-            yield from outcome_text(spec, group.one.told).decode().removesuffix("\n").split("\n")
-        if LEFT in flags:
-            standing = () if self.asked.by_answers else group.one.standing
-            yield from [*left_lines(group.one.left, standing, [*map(visible, spec.session_names)])] or [NOTHING]
-        for text in self.asked.looks:
-            yield from broken(visible(f"look {text}"), WIDTH, 0, 2)
-            yield from self.seen_lines(text, group, 2, 4)
+    def query_rows(self, text, one):
+        events = self.classes.seen(text, one)
+        return LINES[events[-1]] if events[-1] in LINES else rows_text("|".join(row) for row in rows_in(events))
+
+    # the legend
+
+    def legend_lines(self):
+        """What the marks mean that stand in the table, each on the first step that has it."""
+        steps = [step for one in self.rows for step in self.classes.steps(one)]
+        firsts = [(mark, next((step for step in steps if mark in marks_of(step)), None)) for mark in MEANINGS]
+        meant = [f"{step.removesuffix(marks_of(step))}{mark} {MEANINGS[mark]}" for mark, step in firsts if step]
+        if meant:
+            yield "   ".join(meant)
 
     def text(self):
-        parts = [self.title(), self.expected_lines(), self.letter_lines()]
-        parts += [] if self.asked.is_brief or not self.groups else [self.class_lines(), [LEGEND]]
+        parts = [self.head_lines(), self.expectation_lines(), self.total_lines()]
+        parts += [] if self.request.has(BRIEF) else [self.class_lines(), self.legend_lines()]
         texts = ["".join(f"{line}\n" for line in part) for part in parts]
         return "\n".join(text for text in texts if text)
 
 
-def with_steps(front, steps):
-    """The lines of an order's steps, the first one behind what stands in front of it, each further one behind as many blanks."""
-    line = front + steps[0]
-    for step in steps[1:]:
-        if len(f"{line} {step}") <= WIDTH:
-            line += f" {step}"
-        else:
-            yield line
-            line = " " * len(front) + step
-    yield line
+def rows_text(rows):
+    return ", ".join(rows) or "no row"
+
+
+def marks_of(step):
+    """The marks behind a step's name. A name in quotes ends with its quote, and a plain one has none of the marks."""
+    return step[len(step.rstrip("-:!")) :]
 
 
 # ---- the command
 
 
 class Asking:
-    """A spec's text, of which several things may be asked. Raises a Refusal where it has no spec, or no classes."""
+    """A spec's text, of which several things may be asked."""
 
     def __init__(self, text):
-        self.text = text
+        self.text, self.known = text, {}
 
     @cached_property
     def file(self):
@@ -362,41 +307,41 @@ class Asking:
     def spec(self):
         return bind(self.file)
 
-    @cached_property
-    def classes(self):
-        return Classes(self.spec)
+    def classes(self, all_orders):
+        if all_orders not in self.known:
+            self.known[all_orders] = OrderClasses(self.spec, all_orders)
+        return self.known[all_orders]
 
-    def page(self, path, asked):
-        """What is printed of what is asked for, and whether each order is as expected. Raises NotAsked, or NoLook, too."""
-        asked.check(self.spec)
-        page = Page(self.classes, path, asked)
-        return self.told(page), page.is_as_expected()
+    def page(self, path, request):
+        """Raises a Refusal where the text has no spec or does not start, NotAsked or NoQuery where the request is not one of this spec."""
+        request.check(self.spec)
+        return ClassPage(self.classes(request.has(ALL_ORDERS)), path, request, lines_with_levels(self.text, self.file))
 
-    def told(self, page):
-        """What is printed of a page, in the form that is asked for."""
-        if not page.asked.is_json and not page.asked.is_page:
+    def printed(self, page):
+        """A page in the form that is asked for."""
+        if not page.request.has(JSON) and not page.request.has(HTML):
             return page.text()
         json = classes_json(page, statements_of(self.file))
-        return page_html(self.text, page.path, json, [group.least for group in page.groups]) if page.asked.is_page else json
+        return page_html(self.text, page.path, json, [one.first_rank for one in page.rows]) if page.request.has(HTML) else json
 
     def answer(self, path, words):
         """The exit status, and what stands on the two outputs."""
         try:
-            text, is_as_expected = self.page(path, asked_by(words))
+            request = request_of(words)
+            page = self.page(path, request)
+        except NoWords as wrong:
+            return 2, b"", f"{wrong.args[0]}\n".encode()
         except Refusal as refusal:
             return 3, b"", refusal.line(path)
         except NotAsked as wrong:
             return 3, b"", f"isofarm: {path}: {wrong.args[0]}\n".encode()
-        except NoLook as wrong:
+        except NoQuery as wrong:
             return 3, b"", f"isofarm: {wrong.args[0]}\n".encode()
-        return 0 if is_as_expected else 1, text.encode(), b""
+        return 0 if page.is_as_expected() else 1, self.printed(page).encode(), b""
 
 
 def main(path, *words):
-    try:
-        status, out, error = Asking(Path(path).read_bytes()).answer(path, words)
-    except NoWords as wrong:
-        status, out, error = 2, b"", f"{wrong.args[0]} asks for nothing\n".encode()
+    status, out, error = Asking(Path(path).read_bytes()).answer(path, words)
     sys.stdout.buffer.write(out)
     sys.stderr.buffer.write(error)
     sys.exit(status)

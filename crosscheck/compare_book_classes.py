@@ -20,12 +20,12 @@ from random import Random
 from shlex import split
 from tempfile import TemporaryDirectory
 
-from asked import BRIEF, JSON, OUTCOMES
-from book_class_laws import MOST_RUN, read_back, wrong_beside_shows, wrong_fault, wrong_texts, wrong_true_classes
-from book_classes import FLAGS, BookAsking
+from book_class_laws import MOST_RUN, wrong_beside_spec, wrong_fault, wrong_texts, wrong_true_classes
+from book_classes import BookAsking, joined, ranges_text
 from book_file import read_book
 from books import book_text, compact, facts_of, leads_to, values
-from classes import joined, ranges_text
+from class_pages import kinds_of, read_back
+from class_request import BOOK_FLAGS, BRIEF, JSON, OUTCOMES
 from compare import Comparison, ended, fault_of, told
 from compare_classes import CLASS_KINDS, brief_json, brief_text, lined, specs_made
 from compare_files import file_text, shards_of, some_of, worlds_of
@@ -205,7 +205,7 @@ def lists_of(seed, folder, text, run, most):
 
 
 def flags_of(random):
-    return random.sample(FLAGS, random.choice([0, 1, 1, 2, 2, 3, 4]))
+    return random.sample(BOOK_FLAGS, random.choice([0, 1, 1, 2, 2, 3, 4]))
 
 
 def words_of(random, paths, flags):
@@ -229,6 +229,8 @@ BY_HAND = {
     "one.txt": "one.book",
     "one.json": "one.book --json",
     "far.txt": "far.book --ranks",
+    "levels.txt": "levels.book",
+    "levels.json": "levels.book --json",
 }
 REFUSED = [
     # Rank 4 is recorded with one outcome, and its swap leads to rank 2, which has the other one. Ranks below are missing.
@@ -292,7 +294,7 @@ def runs(seed, folder, text, run, most):
 
 
 def compare_with(program, kinds, first, seeds):
-    comparison = BookComparison(program, WORKED, lambda out: read_back(out).kinds())
+    comparison = BookComparison(program, WORKED, kinds_of)
     for words, want in runs_by_hand():
         comparison.look("by hand", ["classes", "--book", *words], want)
     for kind in kinds:
@@ -319,7 +321,7 @@ RANGES = [([[0, 0]], "0"), ([[4, 5], [0, 1], [7, 7]], "0-1 4-5 7"), ([[3, 3], [2
 
 def wrong_by_hand():
     for words, want in runs_by_hand():
-        paths, flags = [word for word in words if word not in FLAGS], [word for word in words if word in FLAGS]
+        paths, flags = [word for word in words if word not in BOOK_FLAGS], [word for word in words if word in BOOK_FLAGS]
         asking = BookAsking(*(str(WORKED / path) for path in paths))
         status, out, error = asking.answer(flags)
         if (status, out.replace(f"{WORKED}/".encode(), b""), error.replace(f"{WORKED}/".encode(), b"")) != want:
@@ -331,7 +333,7 @@ def wrong_alone(paths, is_true, random, counts):
     """What is wrong with the classes of some books by the laws. What is told is counted."""
     asking, flags = BookAsking(*paths), flags_of(random)
     status, out, error = answered = asking.answer(flags)
-    counts.update(["lists", *(read_back(out).kinds() if out else [f"refused: {fault_of(error)}"])])
+    counts.update(["lists", *(kinds_of(out) if out else [f"refused: {fault_of(error)}"])])
     yield from read_back(out).wrong(status) if out else []
     yield from wrong_fault(asking, answered)
     if out:
@@ -341,7 +343,7 @@ def wrong_alone(paths, is_true, random, counts):
     elif is_true and asking.joined[1]:
         yield from wrong_true_classes(asking, worlds_of(asking.joined[0]))
         if asking.classes.first_missing is None and asking.spec.ranks() <= MOST_RUN:
-            yield from wrong_beside_shows(asking)
+            yield from wrong_beside_spec(asking)
 
 
 def alone(kinds, first, seeds):

@@ -2,10 +2,11 @@
 
 usage: python3 crosscheck/compare_classes.py PROGRAM|--alone KIND FIRST_SEED SEEDS
 
-Each spec is run as a whole and by answers, brief and not, as text, as JSON and as a page that a browser opens, and then with some filters, looks
-and expectations (`asking.py`). Of a spec with more orders than this implementation runs, some are made permutation lines. Before them come
-the specs of `classes/`, whose texts and JSON were worked out by hand. With `--alone` no program is run: classes, texts and JSON are held against
-what has to hold of each (`class_laws.py`, `class_pages.py`, `class_objects.py`). KIND is one of those below, or `all`: `crowd` has five to seven
+Of each spec are asked for: all classes and results, brief or not, of the orders that clients can send and of all permutations, as text, as JSON and
+as a page that a browser opens, and then some mix of filters, flags, queries and expectations (`class_asking.py`). What the command line refuses has
+to have the same status, and all else the same bytes. Of a spec with many orders some are made permutation lines. Before them come the pages of
+`classes/`, which were worked out by hand. With `--alone` no program is run: orders are counted by layers of states and one by one, and classes, texts
+and JSON are held against what has to hold of each (`class_laws.py`, `class_pages.py`). KIND is one of those below, or `all`: `crowd` has five to seven
 sessions with so few steps that all orders are run, `leaving` has sessions that leave other rows in each order, and the others are those of
 `compare_shown.py`. The last lines count what was told.
 """
@@ -19,24 +20,23 @@ from shlex import split
 from subprocess import run
 from tempfile import TemporaryDirectory
 
-from asked import ANSWERS, BRIEF, HTML, JSON, LEFT, OUTCOMES
-from asking import Asker
-from class_laws import wrong_classes, wrong_expectation, wrong_filters, wrong_looks, wrong_objects
-from class_objects import DOCTYPE, read_back
-from classes import Asking, share, with_steps
-from compare import Comparison, ended, fault_of
+from class_asking import Asker
+from class_laws import MOST_ONE_BY_ONE, MOST_SESSIONS, wrong_anomalies, wrong_filters, wrong_first_orders, wrong_numbers, wrong_orders, wrong_pages
+from class_laws import wrong_queries, wrong_ways
+from class_pages import kinds_of, read_back
+from class_request import ALL_ORDERS, BRIEF, BY_RESULT, HTML, JSON
+from classes import Asking, share, table_lines
+from compare import Comparison, ended, fault_of, told
 from compare_shown import ALL, ALL_KINDS, ALONE, FILES, bound, specs_of
 from generate import Maker
 from orders import order_text
 from refusal import Refusal
 
 WORKED = Path(__file__).resolve().parent / "classes"
-MOST_ORDERS, MOST_LINES, NEAR_RANKS = 20_000, 60, 40
-TOLD = [[], [ANSWERS], [BRIEF], [ANSWERS, BRIEF], [JSON], [JSON, ANSWERS], [JSON, BRIEF], [HTML]]
-RUNS = [*TOLD, [HTML, ANSWERS]]
-# So many runs of a spec ask for something by filters, looks and expectations.
-RUNS_ASKED = 10
-EXPECTATIONS_LOOKED_AT = 3
+MOST_ORDERS, MOST_LINES, NEAR_RANKS = 300_000, 60, 40
+TOLD = [[], [BY_RESULT], [ALL_ORDERS], [ALL_ORDERS, BY_RESULT], [BRIEF], [JSON], [JSON, ALL_ORDERS], [JSON, BY_RESULT, BRIEF], [HTML]]
+# So many runs of a spec ask for something by filters, queries and expectations.
+RUNS_ASKED = 8
 CROWD = {5: [1, 1, 2], 6: [1, 1, 1, 2], 7: [1]}
 MOST = 2**63 - 1
 
@@ -111,64 +111,68 @@ def asker_of(asking, seed):
     """Who asks for the classes of a spec, or of a text that has none."""
     spec, chosen_by = bound(asking.text), str(seed).encode() + asking.text
     try:
-        return Asker(chosen_by, spec, asking.classes)
+        return Asker(chosen_by, spec, asking.classes(False))
     except Refusal:
         return Asker(chosen_by, spec)
 
 
-def runs(text, seed, path):
-    """The words of some runs of a spec, and what each tells."""
-    random, asking = Random(seed), Asking(text)
-    for flags in RUNS:
-        yield ["classes", *random.choice([[path, *flags], [*flags, path]])], asking.answer(path, flags)
+def requests(asking, seed):
+    """Words that ask for the classes of a spec."""
+    yield from TOLD
     asker = asker_of(asking, seed)
-    for _ in range(RUNS_ASKED):
-        words = asker.words()
-        yield ["classes", path, *words], asking.answer(path, words)
+    yield from (asker.words() for _ in range(RUNS_ASKED))
+
+
+def runs(text, seed, path):
+    """The words of some runs of a spec, and what each tells; those that the command line takes."""
+    random, asking = Random(seed), Asking(text)
+    for words in requests(asking, seed):
+        want = asking.answer(path, words)
+        if want[0] != 2:
+            yield ["classes", *(random.choice([[path, *words], [*words, path]]) if words in TOLD else [path, *words])], want
 
 
 # ---- worked out by hand
 
 
-LONG_LOOK = "SELECT id, v, id, v, id, v FROM t WHERE id = 1 AND v > 0 AND v < 100 AND NOT v = 11"
-LONG_TABLE, LONG_TEXT = "u" * 73, f"'{'x' * 100}'"
-# Of texts of other words than none and `--answers`: these words, and the status. JSON has `--json` besides.
+# The words of each page of `classes/` that has some behind its spec's name, and the status. JSON has `--json` besides.
 ASKED = {
-    "alone.expected": (f"--expect 'SELECT v, id FROM t' 1 10 --look '{LONG_LOOK}'", 1),
+    "alone.expected": ("--expect 'SELECT v, id FROM t' 1 10 --query 'SELECT id, v, id FROM t WHERE NOT v = 11'", 1),
     "alone.outcomes": ("--outcomes", 0),
-    "bare.left": ("--left --outcomes", 0),
-    "bare.joint": ("--left --answers", 0),
+    "bare.left": ("--final-rows --outcomes", 0),
+    "bare.result": ("--final-rows --by-result", 0),
     "blind.none": ("--deadlock --expect 'SELECT v FROM t' 1", 0),
-    "counter.brief": ("--answers --brief --no-serial --expect 'SELECT n FROM counter' 2", 1),
-    "counter.expected": ("--expect 'SELECT n FROM counter' 2", 1),
-    "counter.lost": ("--no-serial", 0),
-    "counter.serial": ("--serial --expect 'SELECT n FROM counter' 2", 0),
-    "lines.all": ("--answers --outcomes --left", 0),
-    "lines.stuck": ("--stuck --answers --left", 0),
+    "blind.result": (BY_RESULT, 0),
+    "counter.expected": ("--expect 'SELECT n FROM counter' 2 --expect 'SELECT count(*) FROM counter' 1 --query 'SELECT n FROM counter'", 1),
+    "deadlock.result": (BY_RESULT, 0),
+    "deadlock.victim": ("--no-deadlock=b --deadlock=a --waits", 0),
+    "deadlock.victims": ("--deadlock", 0),
+    "lines": ("--query 'SELECT * FROM t WHERE v * 9223372036854775807 > 0' --query 'SELECT v, id FROM t ORDER BY id'", 0),
+    "log.all": (f"{ALL_ORDERS} --query 'SELECT * FROM log'", 0),
     "log.expected": ("""--brief --expect 'SELECT w FROM log' "'a'" --expect "SELECT w FROM log WHERE w = 'a'" "'a'\"""", 1),
-    "log.looks": ("--look 'SELECT * FROM log'", 0),
-    "lost.lost": ("--no-serial", 0),
-    "over.looks": (
-        f"--look 'SELECT sum(v) FROM big' --expect 'SELECT sum(v), count(*) FROM big' {MOST} 2 --left --look 'SELECT v FROM big ORDER BY v'",
+    "over.some": (
+        f"--query 'SELECT sum(v) FROM big' --expect 'SELECT sum(v), count(*) FROM big' {MOST} 2 --final-rows --query 'SELECT v FROM big ORDER BY v'",
         1,
     ),
+    "queue.result": ("--by-result --final-rows", 0),
+    "queue.some": ("--by-result --final-rows --waits --expect 'SELECT v FROM t' 3 --query 'SELECT v, id FROM t'", 1),
+    "sight.result": (BY_RESULT, 0),
     "sight.values": (
-        "--answers --brief --expect 'SELECT count(*), count(*) FROM t' 0 --expect 'SELECT count(*), count(*) FROM t' 0 0"
+        "--by-result --brief --expect 'SELECT count(*), count(*) FROM t' 0 --expect 'SELECT count(*), count(*) FROM t' 0 0"
         " --expect 'SELECT count(*) FROM t' 0 0 --expect 'SELECT id FROM t' 1",
         1,
     ),
     "skew.both": ("--deadlock=a --deadlock=b --expect 'SELECT count(*) FROM doctor' 2", 0),
-    "skew.deadlock_b": ("--deadlock=b", 0),
-    "skew.no_deadlock_b": ("--no-deadlock=b --answers", 0),
-    "skew.looks": (
-        """--deadlock=b --look ' ;SELECT count(*) FROM doctor; -- all' --look 'SELECT name FROM doctor\nWHERE on_call = 1'""",
+    "skew.queries": (
+        """--deadlock=b --query ' ;SELECT count(*) FROM doctor; -- all' --query 'SELECT name FROM doctor\nWHERE on_call = 1'""",
         0,
     ),
-    "stuck.left": ("--left --outcomes", 0),
-    "stuck.stuck": ("--stuck --left --answers", 0),
-    "transfer.waits": ("--answers --waits --expect 'SELECT sum(balance) FROM account' 200", 1),
-    "wide.left": (
-        f"""--look 'SELECT w FROM {LONG_TABLE}' --expect 'SELECT w FROM {LONG_TABLE}' "'a\tb'" --left --expect 'SELECT w FROM {LONG_TABLE}' "{LONG_TEXT}\"""",
+    "stuck.all": (ALL_ORDERS, 0),
+    "stuck.final": ("--final-rows", 0),
+    "stuck.none": ("--no-stuck --waits --all-orders", 0),
+    "transfer.all": (ALL_ORDERS, 0),
+    "twice.result": (
+        """--by-result --error --outcomes --final-rows --expect 'SELECT w FROM t' "'a'" --expect "SELECT w FROM t WHERE w > 'b'" "'a'\"""",
         1,
     ),
 }
@@ -177,28 +181,28 @@ REFUSED = [
     ("skew", "--deadlock=c", 'skew.spec: no session "c"'),
     ("skew", "--no-deadlock=a --no-deadlock=A --brief", 'skew.spec: no session "A"'),
     ("skew", """--deadlock='say "a\\"'""", r'skew.spec: no session "say \"a\\\""'),
-    ("lines", "--serial", "lines.spec: no serial orders"),
-    ("lines", "--answers --no-serial --waits", "lines.spec: no serial orders"),
-    # Looks that do not read, with the place of what cannot stand there, or of their end.
-    ("skew", "--look 'SELECT name FROM doctor WHERE'", '"SELECT name FROM doctor WHERE": sql error 3 at 29'),
-    ("skew", """--look "SELECT name FROM doctor WHERE name = 'bo\"""", """"SELECT name FROM doctor WHERE name = 'bo": sql error 2 at 37"""),
-    ("skew", """--look 'SELECT "name" FROM doctor'""", r'"SELECT \"name\" FROM doctor": sql error 1 at 7'),
-    ("skew", "--look 'SELECT * FROM doctor}'", '"SELECT * FROM doctor}": sql error 1 at 20'),
-    ("skew", "--brief --look 'SHOW doctor'", '"SHOW doctor": sql error 4 at 0'),
-    ("skew", "--look 'SELECT * FROM doctor; SHOW x'", '"SELECT * FROM doctor; SHOW x": sql error 4 at 22'),
-    ("skew", f"--look 'SELECT name FROM doctor WHERE on_call < {MOST + 1}'", f'"SELECT name FROM doctor WHERE on_call < {MOST + 1}": sql error 5 at 40'),
-    # Looks that are another statement than one SELECT.
-    ("skew", "--look ''", '"": not one SELECT'),
-    ("skew", "--look ' ; -- none'", '" ; -- none": not one SELECT'),
-    ("skew", "--look 'UPDATE doctor SET on_call = 0'", '"UPDATE doctor SET on_call = 0": not one SELECT'),
-    ("skew", "--look 'SELECT * FROM doctor; COMMIT'", '"SELECT * FROM doctor; COMMIT": not one SELECT'),
+    ("lines", "--no-anomaly", "lines.spec: no serial orders"),
+    ("lines", "--by-result --anomaly --waits", "lines.spec: no serial orders"),
+    # Queries that do not read, with the place of what cannot stand there, or of their end.
+    ("skew", "--query 'SELECT name FROM doctor WHERE'", '"SELECT name FROM doctor WHERE": sql error 3 at 29'),
+    ("skew", """--query "SELECT name FROM doctor WHERE name = 'bo\"""", """"SELECT name FROM doctor WHERE name = 'bo": sql error 2 at 37"""),
+    ("skew", """--query 'SELECT "name" FROM doctor'""", r'"SELECT \"name\" FROM doctor": sql error 1 at 7'),
+    ("skew", "--query 'SELECT * FROM doctor}'", '"SELECT * FROM doctor}": sql error 1 at 20'),
+    ("skew", "--brief --query 'SHOW doctor'", '"SHOW doctor": sql error 4 at 0'),
+    ("skew", "--query 'SELECT * FROM doctor; SHOW x'", '"SELECT * FROM doctor; SHOW x": sql error 4 at 22'),
+    ("skew", f"--query 'SELECT name FROM doctor WHERE on_call < {MOST + 1}'", f'"SELECT name FROM doctor WHERE on_call < {MOST + 1}": sql error 5 at 40'),
+    # Queries that are another statement than one SELECT.
+    ("skew", "--query ''", '"": not one SELECT'),
+    ("skew", "--query ' ; -- none'", '" ; -- none": not one SELECT'),
+    ("skew", "--query 'UPDATE doctor SET on_call = 0'", '"UPDATE doctor SET on_call = 0": not one SELECT'),
+    ("skew", "--query 'SELECT * FROM doctor; COMMIT'", '"SELECT * FROM doctor; COMMIT": not one SELECT'),
     ("skew", "--expect 'SELECT * FROM docter; SELECT * FROM doctor' 1", '"SELECT * FROM docter; SELECT * FROM doctor": not one SELECT'),
-    # Looks that do not fit, with the place where the SELECT begins.
-    ("skew", "--look 'SELECT * FROM docter'", '"SELECT * FROM docter": bind error 2 at 0'),
-    ("skew", "--look ' SELECT name, on_cal FROM doctor;'", '" SELECT name, on_cal FROM doctor;": bind error 3 at 1'),
-    ("skew", "--look ' -- é\n;SELECT sum(name) FROM doctor'", r'" -- é\n;SELECT sum(name) FROM doctor": bind error 4 at 8'),
+    # Queries that do not fit, with the place where the SELECT begins.
+    ("skew", "--query 'SELECT * FROM docter'", '"SELECT * FROM docter": bind error 2 at 0'),
+    ("skew", "--query ' SELECT name, on_cal FROM doctor;'", '" SELECT name, on_cal FROM doctor;": bind error 3 at 1'),
+    ("skew", "--query ' -- é\n;SELECT sum(name) FROM doctor'", r'" -- é\n;SELECT sum(name) FROM doctor": bind error 4 at 8'),
     ("alone", "--expect 'SELECT id, w FROM t WHERE id = v + 1' 1", '"SELECT id, w FROM t WHERE id = v + 1": bind error 3 at 0'),
-    ("skew", "--look 'SELECT nobody FROM doctor WHERE name = 1'", '"SELECT nobody FROM doctor WHERE name = 1": bind error 3 at 0'),
+    ("skew", "--query 'SELECT nobody FROM doctor WHERE name = 1'", '"SELECT nobody FROM doctor WHERE name = 1": bind error 3 at 0'),
     # Values.
     ("skew", "--expect 'SELECT count(*) FROM doctor' 02", '"02": no value'),
     ("skew", "--expect 'SELECT count(*) FROM doctor' +2 --brief", '"+2": no value'),
@@ -209,41 +213,52 @@ REFUSED = [
     ("skew", """--expect 'SELECT name FROM doctor' "'it''s'" "'it's'\"""", """"'it's'": no value"""),
     ("skew", """--expect 'SELECT name FROM doctor' '"bo"'""", r'"\"bo\"": no value'),
     ("skew", "--expect 'SELECT name FROM doctor' NULL", '"NULL": no value'),
-    # The first of several faults: filters by R, sessions, those with `no-`, looks, expectations, and then the start.
-    ("lines", "--deadlock=c --serial", "lines.spec: no serial orders"),
-    ("lines", "--look '' --serial", "lines.spec: no serial orders"),
+    # The first of several faults: filters in their order, each before its opposite, queries, expectations, and then the start.
+    ("lines", "--deadlock=c --anomaly", 'lines.spec: no session "c"'),
+    ("lines", "--no-anomaly --anomaly --no-deadlock=c", 'lines.spec: no session "c"'),
+    ("lines", "--query '' --no-anomaly", "lines.spec: no serial orders"),
     ("skew", "--no-deadlock=c --deadlock=a --deadlock=d --deadlock=e", 'skew.spec: no session "d"'),
-    ("skew", "--no-deadlock=c --no-deadlock=d --look ''", 'skew.spec: no session "c"'),
-    ("skew", "--expect 'SELECT a' 01 --look 'SELECT b' --look ';'", '"SELECT b": sql error 3 at 8'),
-    ("skew", "--expect 'SELECT name FROM doctor' 01 --look 'SELECT * FROM c'", '"SELECT * FROM c": bind error 2 at 0'),
-    ("skew", "--look 'SELECT * FROM c' --look 'SELECT'", '"SELECT * FROM c": bind error 2 at 0'),
+    ("skew", "--no-deadlock=c --no-deadlock=d --query ''", 'skew.spec: no session "c"'),
+    ("skew", "--expect 'SELECT a' 01 --query 'SELECT b' --query ';'", '"SELECT b": sql error 3 at 8'),
+    ("skew", "--expect 'SELECT name FROM doctor' 01 --query 'SELECT * FROM c'", '"SELECT * FROM c": bind error 2 at 0'),
+    ("skew", "--query 'SELECT * FROM c' --query 'SELECT'", '"SELECT * FROM c": bind error 2 at 0'),
     ("skew", "--expect 'SELECT name FROM doctor' 1 01 +1 --expect '' 1", '"01": no value'),
     ("skew", "--expect 'SELECT * FROM c' 01", '"SELECT * FROM c": bind error 2 at 0'),
-    ("unstarted", "--look 'SELECT id FROM t'", "unstarted.spec: start error 1 at 0"),
-    ("unstarted", "--look 'SELECT id FROM u'", '"SELECT id FROM u": bind error 2 at 0'),
+    ("unstarted", "--query 'SELECT id FROM t'", "unstarted.spec: start error 1 at 0"),
+    ("unstarted", "--query 'SELECT id FROM u'", '"SELECT id FROM u": bind error 2 at 0'),
     ("unstarted", "--expect 'SELECT id FROM t' 1 a", '"a": no value'),
     ("unstarted", "--no-deadlock=c", 'unstarted.spec: no session "c"'),
 ]
-
+# Words that the command line refuses.
+NO_WORDS = ["--answers", "--brief --look 'SELECT v FROM t'", "--left", "--no-serial", "--serial", "--all-orders --unsent", "--no-unsent --all-orders"]
+NO_WORDS += ["--not-sent", "--json --no-not-sent", "--ranks", "--stuck=a", "--expect 'SELECT v FROM t'", "--json --json", "--html --json", "--brief --html"]
+NO_WORDS += [f"--memory {number}" for number in ("0", "1000001", "-1", "1e3", "''")]
 # Words, and the front of the first line that `three.spec` has with them. A script of another hand counted these over what a book says of each order.
 COUNTED = {
-    "": "34650 orders, 273 classes",
-    "--waits": "34380 of 34650 orders, ",
-    "--deadlock": "25812 of 34650 orders, ",
-    "--deadlock=a": "11304 of 34650 orders, ",
-    "--deadlock=b": "11304 of 34650 orders, ",
-    "--deadlock=d": "11304 of 34650 orders, ",
-    "--unsent": "23652 of 34650 orders, 141 classes",
-    "--stuck": "11196 of 34650 orders, ",
-    "--no-unsent": "10998 of 34650 orders, 132 classes",
+    "": "34,650 orders in 273 classes (all permutations; 23,652 contain a step that is not sent)",
+    "--waits": "34,380 of 34,650 orders in ",
+    "--deadlock": "25,812 of 34,650 orders in ",
+    "--deadlock=a": "11,304 of 34,650 orders in ",
+    "--deadlock=b": "11,304 of 34,650 orders in ",
+    "--deadlock=d": "11,304 of 34,650 orders in ",
+    "--not-sent": "23,652 of 34,650 orders in 141 classes",
+    "--stuck": "11,196 of 34,650 orders in ",
+    "--no-not-sent": "10,998 of 34,650 orders in 132 classes",
 }
+SHARES = [((0, 5), "0.0%"), ((1, 1), "100.0%"), ((2, 3), "66.7%"), ((1, 3), "33.3%"), ((0, 0), "0.0%"), ((1, 16), "6.3%"), ((1, 80), "1.3%")]
+SHARES += [((1, 2000), "0.1%"), ((1, 2001), "<0.1%"), ((3, 2000), "0.2%"), ((1999, 2000), "100.0%"), ((1998, 2000), "99.9%")]
+SHARES += [((1, 2**63), "<0.1%"), ((2**63 - 1, 2**63), "100.0%")]
+COLUMNS = [
+    ([["", "orders", ""], ["  W ", "7", "waits"], ["  D ", "1,000,000", ""]], {1}, ["         orders", "  W           7  waits", "  D   1,000,000"]),
+    ([["a", "bb", "c"], ["aa", "b", "c c"]], set(), ["a   bb  c", "aa  b   c c"]),
+]
 
 
 def brief_text(text):
-    """The parts of a text up to the letters: the title, what is expected, and the letters."""
+    """The parts of a text up to the letters: the head, what is expected, and the totals."""
     parts = text.split(b"\n\n")
-    letters = next(place for place, part in enumerate(parts) if part.startswith(b" " * 7))
-    return b"\n\n".join(part.rstrip(b"\n") for part in parts[: letters + 1]) + b"\n"
+    totals = next(place for place, part in enumerate(parts) if part.startswith(b" " * 5))
+    return b"\n\n".join(part.rstrip(b"\n") for part in parts[: totals + 1]) + b"\n"
 
 
 def brief_json(text):
@@ -251,89 +266,87 @@ def brief_json(text):
     return text.partition(b',"classes":')[0] + b"}\n"
 
 
-def texts_by_hand():
-    """Each text and JSON of `classes/`: the spec's path, the words behind it, the text, and the status."""
+def pages_by_hand():
+    """Each page of `classes/`: the spec's path, the words behind it, what is printed, and the status."""
     for path in sorted([*WORKED.glob("*.txt"), *WORKED.glob("*.json")]):
-        words, status = ASKED.get(path.stem, (ANSWERS if path.stem.endswith(".answers") else "", 0))
-        yield path.with_name(f"{path.stem.partition('.')[0]}.spec"), split(words) + [JSON] * (path.suffix == ".json"), path.read_bytes(), status
+        words, status = ASKED.get(path.stem, ("", 0))
+        flags = [JSON] * (path.suffix == ".json")
+        yield path.with_name(f"{path.stem.partition('.')[0]}.spec"), [*split(words), *flags], path.read_bytes(), status
 
 
 def worked():
-    """For each text of `classes/` the spec's path and text, the words of its run, and what it tells; and so for what is refused."""
-    for path, flags, text, status in texts_by_hand():
-        runs_by_hand = [([], text)]
-        if BRIEF not in flags:
-            runs_by_hand += [([BRIEF], (brief_json if JSON in flags else brief_text)(text))]
-        if JSON in flags:
-            runs_by_hand += [([flag], text) for flag in (OUTCOMES, LEFT) if flag not in flags]
-        for more, out in runs_by_hand:
-            yield path.name, path.read_bytes(), ["classes", path.name, *flags, *more], (status, out, b"")
-    for name, words, told in REFUSED:
-        path = WORKED / f"{name}.spec"
+    """For each page of `classes/` the spec's path, the words of its run, and what it tells; and so for what is refused."""
+    for path, words, out, status in pages_by_hand():
+        yield path, words, (status, out, b"")
+        if BRIEF not in words:
+            yield path, [*words, BRIEF], (status, (brief_json if JSON in words else brief_text)(out), b"")
+    for name, words, line in REFUSED:
         for more in ([], [JSON]):
-            yield path.name, path.read_bytes(), ["classes", path.name, *split(words), *more], (3, b"", f"isofarm: {told}\n".encode())
-
-
-SHARES = [((0, 5), "0"), ((1, 1), "100.0"), ((2, 3), "66.6"), ((1, 1000), "0.1"), ((1, 1001), "0.1"), ((1, 500), "0.2"), ((999, 1000), "99.9")]
-SHARES += [((1, 2**63 - 1), "0.1"), ((2**63 - 2, 2**63 - 1), "99.9"), ((1999, 1_000_000), "0.1"), ((2000, 1_000_000), "0.2")]
-# What stands in front, and steps: the lines.
-BROKEN = [
-    ((" " * 70, ["a1", "a2", "b12", "b2"]), [f"{' ' * 70}a1 a2 b12", f"{' ' * 70}b2"]),
-    # A line of 80 columns, and a step that would make one of 81; a step that is itself too wide.
-    ((" " * 60, ["a" * 9, "b" * 10, "c" * 9, "d" * 11]), [f"{' ' * 60}{'a' * 9} {'b' * 10}", f"{' ' * 60}{'c' * 9}", f"{' ' * 60}{'d' * 11}"]),
-    ((" " * 60, ["a" * 21, "b", "c" * 25, "d"]), [" " * 60 + one for one in ("a" * 21, "b", "c" * 25, "d")]),
-]
+            yield WORKED / f"{name}.spec", [*split(words), *more], (3, b"", f"isofarm: {line}\n".encode())
+    for words in NO_WORDS:
+        yield WORKED / "stuck.spec", split(words), (2, b"", b"")
 
 
 def wrong_by_hand():
     """What is told otherwise than was worked out by hand."""
-    for name, text, (_classes, path, *flags), want in worked():
-        if Asking(text).answer(path, flags) != want:
-            yield f"{name} {' '.join(flags)}"
+    for path, words, want in worked():
+        told_here = Asking(path.read_bytes()).answer(path.name, words)
+        if told_here[0] != want[0] or (want[0] != 2 and told_here != want):
+            yield f"{path.name} {' '.join(words)}: {told_here[0]}\n{(told_here[1] or told_here[2]).decode()}"
+    asking = Asking((WORKED / "three.spec").read_bytes())
+    yield from wrong_counts(lambda words: asking.answer("three.spec", words)[1])
     yield from (f"the share of {orders} is {share(*orders)}" for orders, text in SHARES if share(*orders) != text)
-    yield from (f"{steps} stand as {[*with_steps(*steps)]}" for steps, lines in BROKEN if [*with_steps(*steps)] != lines)
+    yield from (f"{rows} stand as {[*table_lines(rows, right)]}" for rows, right, lines in COLUMNS if [*table_lines(rows, right)] != lines)
+
+
+def wrong_counts(printed_of):
+    """What is counted of three sessions otherwise than by another hand."""
+    for words, front in COUNTED.items():
+        out = printed_of([ALL_ORDERS, BRIEF, *split(words)]).decode()
+        if not out.startswith(f"three.spec: {front}"):
+            yield f"three.spec {words}: {out.partition(chr(10))[0]}"
+
+
+# ---- with the program
 
 
 class ClassComparison(Comparison):
-    """Compares, and looks at the form of what was told."""
+    """Compares, and looks at the form of what was told. What the command line refuses is told in words of its own."""
 
     def look(self, name, words, want):
-        status, out, _error = got = super().look(name, words, want)
-        if got != want:
-            return got
-        for wrong in read_back(out).wrong(status) if out else []:
+        if want[0] == 2:
+            self.runs += 1
+            self.counts["status 2"] += 1
+            got = told(self.program, words, self.folder, {})
+            wrong = [] if (got[0], got[1]) == (2, b"") and got[2] else [f"status {got[0]}, and not 2"]
+        else:
+            got = super().look(name, words, want)
+            wrong = [*read_back(got[1]).wrong(got[0])] if got[1] and got == want else []
+        for one in wrong:
             self.differences += 1
-            print(f"{name}, {' '.join(words)}: {wrong}", flush=True)
+            print(f"{name}, {' '.join(words)}: {one}", flush=True)
         return got
 
 
-def kinds_of(out):
-    return ["page of a browser"] * out.startswith(DOCTYPE) + [*read_back(out).kinds()]
-
-
-def wrong_counts(program):
-    """What is counted of three sessions otherwise than by hand."""
-    for words, front in COUNTED.items():
-        told = run([program, "classes", "three.spec", BRIEF, *split(words)], cwd=WORKED, capture_output=True, text=True, check=False).stdout
-        if not told.startswith(f"three.spec: {front}"):
-            yield f"three.spec {words}: {told.partition(chr(10))[0]}"
+def printed_by(program):
+    return lambda words: run([program, "classes", "three.spec", *words], cwd=WORKED, capture_output=True, check=False).stdout
 
 
 def compare_with(program, kinds, first, seeds):
     with TemporaryDirectory() as folder:
         comparison = ClassComparison(program, folder, kinds_of)
-        for wrong in wrong_counts(program):
+        for wrong in wrong_counts(printed_by(program)):
             comparison.differences += 1
             print(f"by hand, {wrong}", flush=True)
-        for path, text, words, want in worked():
-            Path(folder, path).write_bytes(text)
-            comparison.look("by hand", words, want)
+        for path, words, want in worked():
+            Path(folder, path.name).write_bytes(path.read_bytes())
+            comparison.look("by hand", ["classes", path.name, *words], want)
         for kind in kinds:
             for name, seed, text in texts_of(kind, first, seeds):
-                path = Random(seed).choice(FILES)
+                path, asking = Random(seed).choice(FILES), Asking(text)
                 Path(folder, path).write_bytes(text)
-                for words, want in runs(text, seed, path):
-                    comparison.look(f"{kind}, {name}", words, want)
+                for words in requests(asking, seed):
+                    comparison.look(f"{kind}, {name}", ["classes", path, *words], asking.answer(path, words))
     return comparison.end()
 
 
@@ -341,47 +354,58 @@ def compare_with(program, kinds, first, seeds):
 
 
 def wrong_told(asking, seed, counts):
-    """What is wrong with pages and objects of a spec: as a whole, by answers, brief, and what is asked for besides. What is told is counted."""
-    random, path, asker = Random(seed), Random(seed).choice(FILES), asker_of(asking, seed)
-    for words in [*TOLD, *(asker.words() for _ in range(RUNS_ASKED))]:
+    """What is wrong with texts, JSON and pages of a spec, beside one another. What is told is counted."""
+    random, path = Random(seed), Random(seed).choice(FILES)
+    for words in requests(asking, seed):
         status, out, error = asking.answer(path, words)
-        counts.update(kinds_of(out) if out else [f"refused: {fault_of(error)}"])
+        counts.update(kinds_of(out) if out else ["status 2"] if status == 2 else [f"refused: {fault_of(error)}"])
         wrong = [*read_back(out).wrong(status)] if out else []
-        wrong += wrong_objects(asking, path, words, random) if JSON in words else []
+        wrong += wrong_pages(asking, path, words, random) if status != 2 else []
         yield from (f"{' '.join(words)}: {one}" for one in wrong)
 
 
-def wrong_alone(asking, seed):
+def wrong_alone(asking, seed, counts):
     """What is wrong with the classes of a spec by the laws."""
-    random, asker = Random(seed), asker_of(asking, seed)
-    yield from wrong_classes(asking.classes, random)
-    yield from wrong_filters(asking, random)
-    yield from wrong_looks(asking.classes, random)
-    for _ in range(EXPECTATIONS_LOOKED_AT if asking.spec.tables else 0):
-        select, *values = asker.expected()
-        yield from wrong_expectation(asking, select, values)
+    random, spec, sent, every = Random(seed), asking.spec, asking.classes(False), asking.classes(True)
+    for classes in (sent, every):
+        yield from wrong_filters(classes, random)
+        yield from wrong_queries(classes, random)
+    if spec.lines is not None:
+        return
+    counts["specs with fewer orders than permutations"] += sent.orders < every.orders
+    counts["specs with an order behind which somebody waits"] += any("S" in one.letters for one in sent.all)
+    counts["specs with an anomaly"] += any("R" in one.letters for one in sent.all)
+    yield from wrong_numbers(sent, every)
+    for classes in (sent, every):
+        yield from wrong_first_orders(classes, random)
+        if spec.ranks() <= MOST_ONE_BY_ONE:
+            yield from wrong_ways(classes)
+            yield from wrong_orders(classes, random)
+        if len(spec.session_names) <= MOST_SESSIONS:
+            yield from wrong_anomalies(classes)
+    counts["specs gone through one by one"] += spec.ranks() <= MOST_ONE_BY_ONE
 
 
 def is_classed(asking):
     try:
-        return bool(asking.classes)
+        return bool(asking.classes(False))
     except Refusal:
         return False
 
 
 def alone(kinds, first, seeds):
-    counts, wrong_texts = Counter(), [*wrong_by_hand()]
-    print("".join(f"by hand: {wrong}\n" for wrong in wrong_texts), end="")
-    found = len(wrong_texts)
+    counts, by_hand = Counter(), [*wrong_by_hand()]
+    print("".join(f"by hand: {wrong}\n" for wrong in by_hand), end="")
+    found = len(by_hand)
     for kind in kinds:
         for name, seed, text in texts_of(kind, first, seeds):
             asking = Asking(text)
-            told = [*wrong_told(asking, seed, counts)]
+            wrong = [*wrong_told(asking, seed, counts)]
             if is_classed(asking):
-                counts.update(["specs"])
-                told += wrong_alone(asking, seed)
-            found += len(told)
-            print("".join(f"{kind}, {name}: {wrong}\n" for wrong in told), end="", flush=True)
+                counts["specs"] += 1
+                wrong += wrong_alone(asking, seed, counts)
+            found += len(wrong)
+            print("".join(f"{kind}, {name}: {one}\n" for one in wrong), end="", flush=True)
     print(f"{counts['specs']} specs, {found} faults of the laws; in what was told:")
     for word, count in counts.most_common():
         print(f"  {count:6} {word}")

@@ -11,7 +11,7 @@ from collections import Counter
 from pathlib import Path
 from tempfile import TemporaryDirectory
 
-from asking import Asker
+from class_asking import Asker
 from compare import PROGRAM, ended, ranks_of, told
 from compare_shown import bound
 from examples import EXAMPLES
@@ -19,7 +19,7 @@ from generate import KINDS, Maker
 
 LAUNCHER = EXAMPLES.parent / "isofarm"
 MOST_RANKS = 300
-# Of so many orders classes are asked for, so often by filters, looks and expectations.
+# Of so many orders classes are asked for, so often by filters, queries and expectations.
 MOST_CLASSED, RUNS_ASKED = 20_000, 3
 
 
@@ -62,7 +62,7 @@ class Pair:
 
     def classes(self, name, text):
         asker = Asker(name, bound(text))
-        for words in [[], ["--answers", "--brief"], ["--json", "--left"], *(asker.words() for _ in range(RUNS_ASKED))]:
+        for words in [[], ["--by-result", "--brief"], ["--json", "--all-orders"], *(asker.words() for _ in range(RUNS_ASKED))]:
             self.run(name, "classes", "made.spec", *words)
 
     def look(self, name, text):

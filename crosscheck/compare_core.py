@@ -2,7 +2,7 @@
 
 usage: python3 crosscheck/compare_core.py WASM FIRST_SEED SEEDS [KIND]
 
-Asked are `check`, the number of orders, some orders and one that is none, and classes by all that orders show and by what they answer, of the
+Asked are `check`, the number of orders, some orders and one that is none, and classes and results, of the
 examples, of specs made from so many seeds of each kind, and of a text of each with something wrong. Of a spec with many orders some are made permutation
 lines. A module that has too little memory says so, is asked again, and answers as the program does once it has enough. WASM is what `page/core/make` has made, or `make`: then it is made first, or `compiled`: without a proof.
 The program is the built one, or the one whose path stands in the variable ISOFARM. The last lines count what was answered.
@@ -124,8 +124,8 @@ class Comparison:
         if not isinstance(number, dict) and int(number) > MOST_ORDERS:
             self.counts["classes: too many orders"] += 1
             return
-        for words in [{}, {"answers": True}]:
-            want = self.run("classes", name, "--json", *(f"--{word}" for word in words))
+        for words, flags in [({}, []), ({"byResult": True}, ["--by-result"])]:
+            want = self.run("classes", name, "--json", *flags)
             self.look(where, "classes", self.core.ask("classes", text, name, words), want)
 
     def spec(self, where, text, random):

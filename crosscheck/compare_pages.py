@@ -4,7 +4,7 @@ usage: python3 crosscheck/compare_pages.py PROGRAM [SEED [SEEDS]]
 
 Pages are put together by `page/make` of what the program tells as JSON: of the examples, of the specs of `page_specs/` (one has markup, script,
 escapes and marks of direction in its names and texts), and of specs made from seeds. In each browser that is here each class is picked; its
-row, each cell of its timeline with its statements, words, bars of locks and arrows, the sentences of the cell, and what is left are read and
+row, each cell of its timeline with its statements, words, bars of locks and arrows, the sentences of the cell, and final rows are read and
 compared. Nothing of a spec may run, and nothing may be asked for; keys alone reach everything; each control has a name, each cell its heads;
 and text stands out from its ground by 4.5 to 1 in both themes. The last line counts.
 """
@@ -21,9 +21,8 @@ from pathlib import Path
 from random import Random
 from tempfile import TemporaryDirectory
 
-from asked import asked_by
 from browser import BrowserFault, Chromium, there
-from classes import Asking
+from classes import Asking, share
 from compare import ended
 from compare_shown import MORE
 from generate import Maker, fresh_seed
@@ -44,24 +43,19 @@ BETWEEN = b'</script><script type="application/json" class="order">'
 MOST_CLASSES = 30
 LEAST_CONTRAST = 4.5
 FAULTS_TOLD = 5
-WORDS = {"W": "waits", "D": "deadlock", "E": "error", "N": "not sent", "S": "still waits", "R": "anomaly"}
+WORDS = {"W": "waits", "D": "deadlock", "E": "error", "N": "not sent", "S": "waits for ever", "R": "anomaly"}
 OPEN = {"in": "is in a transaction", "failed": "is in a failed block"}
 BLOCKS = {"in": "is in a transaction", "failed": "is in a failed block, which takes COMMIT and ROLLBACK alone,", "out": "has no transaction open"}
 # Words of `isofarm classes` with which pages are made beside those without words.
 OF_EXAMPLES = {
-    "deadlock": [["--answers"], ["--deadlock", "--no-stuck"], ["--look", "SELECT v FROM t WHERE id = 1", "--expect", "SELECT sum(v) FROM t", "32"]],
-    "lost_update": [["--expect", "SELECT * FROM t", "1", "12", "--look", "SELECT * FROM t"], ["--stuck"]],
-    "share_beside_update": [["--serial"], ["--answers"]],
-    "many": [["--answers"]],
+    "deadlock": [["--by-result"], ["--deadlock", "--no-stuck"], ["--query", "SELECT v FROM t WHERE id = 1", "--expect", "SELECT sum(v) FROM t", "32"], ["--all-orders"]],
+    "lost_update": [["--expect", "SELECT * FROM t", "1", "12", "--query", "SELECT * FROM t"], ["--stuck"]],
+    "share_beside_update": [["--no-anomaly"], ["--by-result", "--all-orders"]],
+    "many": [["--by-result"]],
 }
 
 
 # ---- what a page has to show
-
-
-def share(count, total):
-    tens = max(1, 1000 * count // total) if count else 0
-    return f"{tens // 10}.{tens % 10} %"
 
 
 def number(count):
@@ -72,10 +66,9 @@ def plural(count, word, words=None):
     return f"{number(count)} {word if count == 1 else words or word + 's'}"
 
 
-def seen_text(lines):
-    """What a look sees, on one line."""
-    kept = [line for line in lines if not line.startswith("rows ") or len(lines) == 1]
-    return ", ".join(line.removeprefix("row ") for line in kept)
+def found_text(lines):
+    """What a query finds, on one line."""
+    return "no row" if lines == ["rows 0"] else ", ".join(line.removeprefix("row ") for line in lines if not line.startswith("rows "))
 
 
 def listed(texts):
@@ -263,7 +256,7 @@ class Timeline:
         moments = self.value["moments"]
         ends = [at for at, moment in enumerate(moments) if at > row and moment["session"] == session and moment["kind"] == "resumed"]
         if not ends:
-            return "It still waits at the end of the order."
+            return "It waits for ever."
         cause = [moment for moment in moments[: ends[0]] if moment["kind"] != "resumed"][-1]
         return f"It goes on after {self.step(cause['step'])}."
 
@@ -288,13 +281,13 @@ class Timeline:
         freed = "Its locks were let go. " if mine and None in moment["locks"] else ""
         yield f"{freed}Then {who} {BLOCKS[stand.status[session]]} and holds {held}."
 
-    # what is left
+    # final rows
 
     def ends(self):
         last = self.stands[-1]
         for session, waits in enumerate(last.waits):
             if waits:
-                yield f"still waits {self.names[session]} at the end: it {wants(waits[2])}; {', '.join(map(self.reason, last.edges[session]))}."
+                yield f"waits for ever {self.names[session]}: it {wants(waits[2])}; {', '.join(map(self.reason, last.edges[session]))}."
         for session, how in self.value["open"]:
             if how in OPEN:
                 yield f"{self.names[session]} {OPEN[how]}."
@@ -321,7 +314,7 @@ class Timeline:
                 rows.append(["" if was else "new", cells])
             rows += [["gone", [[visible(one), False, ""] for one in row]] for key, row in zip(old, before, strict=True) if key not in keys]
             more = len(rows) - MOST_LEFT
-            yield [f"left in {table['table']}{'' if now else ': nothing'}", rows[:MOST_LEFT], f"and {plural(more, 'row')} more" if more > 0 else ""]
+            yield [f"final rows of {table['table']}{'' if now else ': no row'}", rows[:MOST_LEFT], f"and {plural(more, 'row')} more" if more > 0 else ""]
 
 
 class Wanted:
@@ -329,14 +322,18 @@ class Wanted:
 
     def __init__(self, text, name, words):
         self.asking, self.text, self.name, self.known = Asking(text), text, name, {}
-        self.value = json.loads(self.asking.page(name, asked_by([*words, "--json"]))[0])
+        self.value = json.loads(self.asking.answer(name, [*words, "--json"])[1])
         self.classes, self.total = self.value["classes"], self.value["orders"]
-        self.by_answers = self.value["by"] == "answers"
-        self.word, self.of_word = ("answer", "answers") if self.by_answers else ("class", "classes")
+        self.by_result = self.value["by"] == "answers"
+        self.word, self.of_word = ("result", "results") if self.by_result else ("class", "classes")
 
     def timeline(self, at):
         if at not in self.known:
-            self.known[at] = Timeline(show_value(Order(self.text, self.name, self.classes[at]["least"])))
+            value = show_value(Order(self.text, self.name, self.classes[at]["first_rank"]))
+            # Behind its end a short order has no steps; those of its rank that are not sent are left out.
+            is_short = len(self.classes[at]["order"]) < len(value["order"])
+            moments = [moment for moment in value["moments"] if not is_short or moment["kind"] != "notsent"]
+            self.known[at] = Timeline({**value, "moments": moments, "order": self.classes[at]["order"]})
         return self.known[at]
 
     def figures(self):
@@ -349,18 +346,20 @@ class Wanted:
         for letter, total in self.value["totals"].items():
             if total is not None:
                 told = f"{plural(total[0], 'order')}, {plural(total[1], self.word, self.of_word)}"
-                yield [letter, WORDS[letter], share(total[0], self.total), told, total[0] == 0]
+                yield [letter, WORDS[letter], share(total[0], self.value["asked"]), told, total[0] == 0]
             elif letter == "R":
-                yield [letter, WORDS[letter], "-", "not told", True]
+                yield [letter, WORDS[letter], "-", "not known", True]
 
     def expected(self):
-        for one in self.value["expected"]:
-            text = f"{'as' if one['first'] is None else 'not as'} expected {one['select']} is {'|'.join(one['values'])}"
-            text += f" in {number(one['met'])} of {plural(self.value['asked'], 'order')}"
+        for one in self.value["expectations"]:
+            text = f"{'holds' if one['first'] is None else 'failed'} {one['select']} = {', '.join(one['values'])}"
+            text += f" holds in {number(one['holds_in'])} of {plural(self.value['asked'], 'order')}"
             if one["first"] is not None:
-                place = [each["least"] for each in self.classes].index(one["first"])
-                text += f"; first not so at rank {one['first']}, in {self.word} {place + 1}"
+                place = [each["first_rank"] for each in self.classes].index(one["first"])
+                text += f"; first fails at rank {one['first']}, in {self.word} {place + 1}"
             yield visible(text)
+        if lines := self.value["level_lines"]:
+            yield f"Isolation levels have no effect (line{'s' * (len(lines) > 1)} {', '.join(map(str, lines))})."
 
     def marked(self, at):
         """The steps of a class's order, with the marks that its moments have."""
@@ -380,22 +379,22 @@ class Wanted:
 
     def row(self, at):
         one = self.classes[at]
-        tags = [word for letter, word in WORDS.items() if letter in one["shows"]]
+        tags = [word for letter, word in WORDS.items() if letter in one["letters"]]
         return {
             "number": str(at + 1),
             "order": self.marked(at),
-            "tags": tags or ["nobody waits" if not self.by_answers else "as a serial order answers" if self.value["totals"]["R"] else "no error"],
-            "seen": [visible(f"sees {seen_text(lines)}") for lines in one["seen"]],
-            "count": f"{number(one['orders'])} {share(one['orders'], self.total)}",
+            "tags": tags or ["nobody waits" if not self.by_result else "result of a serial order" if self.value["totals"]["R"] else "no error"],
+            "seen": [visible(f"query {found_text(lines)}") for lines in one["query_rows"]],
+            "count": f"{number(one['orders'])} {share(one['orders'], self.value['asked'])}",
         }
 
     def where(self, one):
-        return f"rank {one['least']}, " + ("its only order" if one["orders"] == 1 else f"the least of {plural(one['orders'], 'order')}")
+        return f"rank {one['first_rank']}, " + ("its only order" if one["orders"] == 1 else f"the first of {plural(one['orders'], 'order')}")
 
     def of_class(self, at, is_whole):
         """What is read of a class; with sentences where it is read whole."""
         one, timeline = self.classes[at], self.timeline(at)
-        looks = [f"look {look} sees {seen_text(lines)}" for look, lines in zip(self.value["looks"], one["seen"], strict=True)]
+        queries = [f"query {query}: {found_text(lines)}" for query, lines in zip(self.value["queries"], one["query_rows"], strict=True)]
         sentences = [
             [[visible(text) for text in timeline.sentences(row, session)] for session in range(len(timeline.names))] for row in range(len(timeline.stands))
         ]
@@ -405,7 +404,7 @@ class Wanted:
             "where": self.where(one),
             "heads": ["Step", *(visible(f"session {name}") for name in timeline.names)],
             "rows": [*timeline.rows()],
-            "ends": [visible(text) for text in [*timeline.ends(), *looks]],
+            "ends": [visible(text) for text in [*timeline.ends(), *queries]],
             "tables": [*timeline.tables()],
             "sentences": sentences if is_whole else None,
         }
@@ -675,7 +674,7 @@ class Reading:
             self.wrong("link", "is not made of a class that is picked")
 
     def absent(self, path, wanted, kept):
-        """Of a class whose moments are not in the page it tells the command that prints them, and what is left."""
+        """Of a class whose moments are not in the page it tells the command that prints them, and final rows."""
         front, *orders = path.read_bytes().split(BETWEEN)
         back = orders[-1][orders[-1].index(b"</script>") :]
         short = path.with_suffix(".short.html")
@@ -684,11 +683,11 @@ class Reading:
         self.browser.run(READING)
         read = self.browser.run(f"readClass({kept}, false)")
         told = self.browser.run("document.getElementById('absent').textContent")
-        if not told.endswith(f"isofarm show {wanted.name} {wanted.classes[kept]['least']}") or read["rows"]:
+        if not told.endswith(f"isofarm show {wanted.name} {wanted.classes[kept]['first_rank']}") or read["rows"]:
             self.wrong("absent", f"of a class without moments it tells {told}")
         left = [
-            [f"left in {table['table']}", [["", [[one, False, ""] for one in values_of(row)]] for row in table["rows"]], ""]
-            for table in wanted.classes[kept]["left"]
+            [f"final rows of {table['table']}", [["", [[one, False, ""] for one in values_of(row)]] for row in table["rows"]], ""]
+            for table in wanted.classes[kept]["final_rows"]
         ]
         self.compare("absent", as_json(left), read["tables"])
         if self.browser.run(f"readClass({kept - 1}, false)")["rows"] == [] or self.browser.run("!document.getElementById('absent').hidden"):
@@ -728,7 +727,7 @@ def is_small(text):
     """Whether a text is a spec with few orders and classes."""
     try:
         asking = Asking(text)
-        return asking.spec.ranks() <= 500 and 1 < len(asking.classes.of_shows) <= MOST_CLASSES
+        return asking.spec.ranks() <= 500 and 1 < len(asking.classes(False).all) <= MOST_CLASSES
     except Refusal:
         return False
 

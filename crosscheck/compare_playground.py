@@ -19,6 +19,7 @@ from tempfile import TemporaryDirectory
 from binding import bind
 from browser import there
 from checks import further, idle_lines
+from classes import Asking
 from compare import ended
 from compare_pages import CONTRAST, CONTROLS, LEAST_CONTRAST, MAKE, SPECS, TOP, Reading, Wanted, plural
 from generate import fresh_seed
@@ -29,7 +30,7 @@ from spec_file import read_spec
 CORE, MODULE = TOP / "page/core.js", TOP / "out/page/page.wasm"
 EXAMPLES = TOP / "examples"
 NAME = "playground.spec"
-# Of specs with more orders the classes are not known here.
+# Of specs with more permutations the orders alone are counted here.
 MOST_ORDERS = 20_000
 HEADS = {"name": "isofarm playground", "title": "isofarm playground"}
 SENTENCE = "Here <b>something</b> is wrong."
@@ -93,7 +94,7 @@ def answers_of(text):
     spec = bind(read_spec(text))
     right["check"]["text"] = f"sessions {len(spec.session_names)}\n{idle_lines(text, read_spec(text))}"
     wanted = Wanted(text, NAME, [])
-    shows = {one["least"]: show_json(Order(text, NAME, one["least"])) for one in wanted.classes}
+    shows = {one["first_rank"]: show_json(Order(text, NAME, one["first_rank"])) for one in wanted.classes}
     return right | {"classes": json.dumps(wanted.value) + "\n", "shows": shows}
 
 
@@ -134,7 +135,7 @@ class Playing(Reading):
 
     def told(self, text):
         spec = bind(read_spec(text))
-        counts = [plural(len(spec.session_names), "session"), plural(len(spec.steps), "step"), plural(spec.ranks(), "order")]
+        counts = [plural(len(spec.session_names), "session"), plural(len(spec.steps), "step"), plural(Asking(text).classes(False).orders, "order")]
         return f"{', '.join(counts)}: "
 
     def shows(self, page, text):

@@ -2,7 +2,7 @@
 
 usage: python3 crosscheck/compare_tests.py PROGRAM FIRST_SEED SEEDS
 
-Each spec of a seed is accepted by `isofarm test --update`, whose file has to be the text of its classes; then one thing in it is edited, or
+Each spec of a seed is accepted by `isofarm test --update`, whose file has to be its record; then one thing in it is edited, or
 nothing, and it is tested. Before them come edits that were worked out by hand. The last lines count what was told.
 """
 
@@ -29,11 +29,15 @@ ONE, KEYED = "session a step s {}", "setup { CREATE TABLE t (id int PRIMARY KEY)
 READ = """A
 
   error: deadlock
-left in u
-    2       1     50.0  ------     1  s
+result 2: 1 of 1 order
+  first: s
 
-ranks 1
+and 1 more result, which are left out
 ''BB"""
+# The same on one line.
+SHOWN = (
+    r"A\u{a}\u{a}  error: deadlock\u{a}result 2: 1 of 1 order\u{a}  first: s\u{a}\u{a}and 1 more result, which are left out\u{a}''BB"
+)
 READS = f"setup {{ CREATE TABLE t (v text); INSERT INTO t VALUES ('{READ}'); }} session a step s {{ SELECT v FROM t; }}"
 WORKED = [
     (ONE, ONE, 0, "as accepted"),
@@ -42,61 +46,128 @@ WORKED = [
         ONE,
         "session a step r {}",
         1,
-        """differs: classes gone 1, new 1, changed 0
-  gone
-        1       1    100.0  ------     0  s
-  new
-        1       1    100.0  ------     0  r""",
+        """differs: results gone 0, new 0, with other numbers 1
+  other numbers
+    was: 1 of 1 order, first: s
+    is: 1 of 1 order, first: r""",
     ),
     (
         ONE,
         f"{ONE} session b step t {{}}",
         1,
-        "has 2 orders, accepted are 1; what they leave and who fails is compared\n  they leave the same, and the same can fail",
+        """differs: results gone 1, new 1, with other numbers 0
+  orders
+    was: 1
+    is: 2
+  gone
+    1 of 1 order
+      first: s
+      a: nothing
+  new
+    2 of 2 orders
+      first: s t
+      a: nothing
+      b: nothing""",
     ),
     (
         KEYED,
         f"{KEYED} session b step t {{ INSERT INTO t VALUES (1); }}",
         1,
-        """has 2 orders, accepted are 1; what they leave and who fails is compared
-  can fail now
-    session a: error: duplicate key
-    session b: error: duplicate key""",
-    ),
-    (KEYED, KEYED.replace("VALUES (1)", "VALUES (2)"), 1, """differs: classes gone 1, new 1, changed 0
+        """differs: results gone 1, new 2, with other numbers 0
+  orders
+    was: 1
+    is: 2
+  letters
+    was: W 0  D 0  E 0  S 0  R 0
+    is: W 0  D 0  E 2  S 0  R 0
   gone
-        1       1    100.0  ------     0  s
+    1 of 1 order
+      first: s
+      a: inserted 1
+      t: 1
   new
-        1       1    100.0  ------     0  s"""),
+    1 of 2 orders
+      first: s t!
+      a: inserted 1
+      b: error: duplicate key
+      t: 1
+    1 of 2 orders
+      first: t s!
+      a: error: duplicate key
+      b: inserted 1
+      t: 1""",
+    ),
+    (
+        KEYED,
+        KEYED.replace("VALUES (1)", "VALUES (2)"),
+        1,
+        """differs: results gone 1, new 1, with other numbers 0
+  gone
+    1 of 1 order
+      first: s
+      a: inserted 1
+      t: 1
+  new
+    1 of 1 order
+      first: s
+      a: inserted 1
+      t: 2""",
+    ),
     (ONE, "session a step", 3, "spec error 4 at 14"),
     # Both orders left 3, and now the first one leaves 2.
     (
         f"{ADDED} step t {{ UPDATE t SET v = v + 2; }}",
         f"{ADDED} step t {{ UPDATE t SET v = 2; }}",
         1,
-        """differs: classes gone 0, new 1, changed 1
+        """differs: results gone 0, new 1, with other numbers 1
   new
-        1       1     50.0  ------     0  s t
-  changed
-    was: 1       2    100.0  ------     0  s t
-    is: 2       1     50.0  ------     1  t s""",
+    1 of 2 orders
+      first: s t
+      a: updated 1
+      b: updated 1
+      t: 2
+  other numbers
+    was: 2 of 2 orders, first: s t
+    is: 1 of 2 orders, first: t s""",
     ),
-    # Texts that are read have line feeds, an empty line, and what looks like an error and a class.
+    # An isolation level without effect stands in the head alone, and so does a file's name.
+    ("session a step s { BEGIN; }", "session a step s { BEGIN ISOLATION LEVEL READ COMMITTED; }", 1, "only the head of the record differs"),
+    # Texts that are read have line feeds, an empty line, and what looks like an error and a result.
     (
         READS,
         READS.replace("BB", "BC"),
         1,
-        """differs: classes gone 1, new 1, changed 0
+        f"""differs: results gone 1, new 1, with other numbers 0
   gone
-        1       1    100.0  ------     0  s
+    1 of 1 order
+      first: s
+      a: row '{SHOWN}', rows 1
+      t: '{SHOWN}'
   new
-        1       1    100.0  ------     0  s""",
+    1 of 1 order
+      first: s
+      a: row '{SHOWN.replace("BB", "BC")}', rows 1
+      t: '{SHOWN.replace("BB", "BC")}'""",
     ),
     (
         READS,
         f"{READS} session b step t {{}}",
         1,
-        "has 2 orders, accepted are 1; what they leave and who fails is compared\n  they leave the same, and the same can fail",
+        f"""differs: results gone 1, new 1, with other numbers 0
+  orders
+    was: 1
+    is: 2
+  gone
+    1 of 1 order
+      first: s
+      a: row '{SHOWN}', rows 1
+      t: '{SHOWN}'
+  new
+    2 of 2 orders
+      first: s t
+      a: row '{SHOWN}', rows 1
+      b: nothing
+      t: '{SHOWN}'""",
     ),
 ]
 
@@ -180,7 +251,7 @@ class Tests:
         if (got := self.run("--update", NAME)) != (0, f"{NAME}: accepted\n".encode(), b""):
             self.differ(name, got, "accepted")
         if (self.folder / "a.accepted").read_bytes() != page:
-            self.differ(name, "another text", "the text of the classes")
+            self.differ(name, "another text", "the record")
         (self.folder / NAME).write_bytes(text)
         status, out = told(NAME, accepted, text)
         if by_hand and (status, out) != by_hand:

@@ -57,7 +57,8 @@ COMMANDS = {
     "classes: 90 orders": ["classes", "share_beside_update.spec"],
     "classes: json": ["classes", "deadlock.spec", "--json"],
     "classes: page": ["classes", "deadlock.spec", "--html"],
-    "classes: answers, looks": ["classes", "deadlock.spec", "--answers", "--look", "SELECT * FROM t"],
+    "classes: results, queries": ["classes", "deadlock.spec", "--by-result", "--query", "SELECT * FROM t"],
+    "classes: all orders": ["classes", "deadlock.spec", "--all-orders"],
     "classes: book": ["classes", "--book", "all.book"],
     "test": ["test", "write_skew.spec", *ALONE],
 }

@@ -439,10 +439,13 @@ def outcome(spec, rank):
     return world.outcome()
 
 
+def outcome_lines(spec, transcripts):
+    """The lines of an outcome. A line feed in a text of a row ends none."""
+    for name, transcript in zip(spec.session_names, transcripts):
+        yield f"session {name}"
+        yield from (f"  {printed(spec, event).decode()}" for event in transcript)
+
+
 def outcome_text(spec, transcripts):
     """The text of an outcome."""
-    lines = []
-    for name, transcript in zip(spec.session_names, transcripts):
-        lines.append(f"session {name}".encode())
-        lines += [b"  " + printed(spec, event) for event in transcript]
-    return b"".join(line + b"\n" for line in lines)
+    return "".join(f"{line}\n" for line in outcome_lines(spec, transcripts)).encode()

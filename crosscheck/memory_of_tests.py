@@ -12,7 +12,7 @@ from compare import PROGRAM, told
 NO_MEMORY, NO_MEMORY_FOR_IT = (4, b"", b"isofarm: no memory\n"), "no memory\n"
 REPORT, OLD_REPORT = "report.xml", b"<old/>\n"
 ONE, TWO = b"session a step s {}\n", b"session a step s {} session b step t {}\n"
-# Each spec with its text, and the accepted text that it has before each run: none, that of a text, or another one.
+# Each spec with its text, and the accepted record that it has before each run: none, that of a text, or another text.
 SPECS = {
     "specs/inner/new.spec": (ONE, None),
     "specs/inner/wrong.spec": (b"session a\n\tstep s {}\n\tstep {}\n", b"another one\n"),
@@ -23,7 +23,7 @@ SPECS = {
 WORDS = ["specs --workers 1", "specs/more.spec specs/other.spec", "--update specs --workers 1", "nothing specs/inner --junit report.xml --workers 1"]
 WORDS += ["--update --junit report.xml specs/inner specs/other.spec --workers 1", "specs/inner/wrong.spec --junit no/report.xml"]
 # The status of what is told of a spec: the first of these that its first line begins with.
-STATUSES = {"report not written": 5, "as accepted": 0, "accepted\n": 0, "no accepted text": 1, "differs": 1, "has ": 1, "spec error": 3, "no memory": 4, "read fault": 5}
+STATUSES = {"report not written": 5, "as accepted": 0, "accepted\n": 0, "no accepted text": 1, "differs": 1, "only the head": 1, "spec error": 3, "no memory": 4, "read fault": 5}
 
 
 def told_of_each(out):
@@ -57,7 +57,7 @@ class Tested:
         self.old = {path: before[path] if accepted in (ONE, TWO) else accepted for path, (_text, accepted) in SPECS.items()}
 
     def accepted_now(self):
-        """The text of the classes of each spec that has some."""
+        """The record of each spec that has one."""
         told(PROGRAM, ["test", "--update", "specs"], self.folder, {})
         return self.texts()
 

@@ -17,12 +17,11 @@ from statistics import median
 from tempfile import TemporaryDirectory
 from time import perf_counter
 
-from binding import bind
 from browser import there
+from classes import Asking
 from compare import PROGRAM, ended
 from compare_pages import SPECS, plural
 from compare_playground import CORE, MODULE, made
-from spec_file import read_spec
 
 # What the page waits behind typing, in milliseconds.
 PAUSE = 150
@@ -46,7 +45,7 @@ def line(what, times):
 
 
 def in_browser(kind, page, text, rounds):
-    told = TOLD % json.dumps(plural(bind(read_spec(text)).ranks(), "order"))
+    told = TOLD % json.dumps(plural(Asking(text).classes(False).orders, "order"))
     opened, typed = [], []
     with kind() as browser:
         for _ in range(rounds):

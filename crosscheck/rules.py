@@ -10,6 +10,8 @@ from watch import MOST_MEMORY
 
 MOST_SECONDS = 10
 N = "(?:0|[1-9][0-9]*)"
+# A number with a comma before each three digits.
+M = "(?:0|[1-9][0-9]{0,2}(?:,[0-9]{3})*)"
 # A name in quotes, in which a quote and a backslash are marked.
 NAME = r'"(?:[^"\\]|\\.)*"'
 # Classes of books are another command than those of a spec.
@@ -46,17 +48,18 @@ FAULTS = [
     (3, "too many specs", UNNAMED, {TEST}),
     (5, "write fault", UNNAMED, COMMANDS | {TEST}),
 ]
+LEVELS = rb"(?:locking: strict two-phase locking; isolation levels? \(lines? %(n)s(?:, %(n)s)*\) (?:has|have) no effect\n)?"
 FAULTS = [(status, re.compile(text), is_named, commands) for status, text, is_named, commands in FAULTS]
-CLASSES_TITLE = rb"[^\n]+: (?:%(n)s of )?%(n)s orders?, %(n)s (?:class(?:es)?|answers?)"
+CLASSES_HEAD = rb"[^\n]+: (?:%(m)s of )?%(m)s orders? in %(m)s (?:class(?:es)?|results?)(?: \([^\n]*\))?\n" + LEVELS
 # An object of classes, and one with expectations; what stands before it and behind it on a page.
-OBJECT, EXPECTING = rb'\{"format":1,[^\n]*\}', rb'\{"format":1,[^\n]*"expected":\[\{[^\n]*\}'
+OBJECT, EXPECTING = rb'\{"format":2,[^\n]*\}', rb'\{"format":2,[^\n]*"expectations":\[\{[^\n]*\}'
 PAGE_FRONT, PAGE_BACK = rb'<!doctype html>\n.+<script type="application/json" id="classes">', rb"</script><script.+</html>\n"
-OUTCOMES_TITLE = rb"[^\n]+: (?:%(n)s of )?%(n)s orders?, %(n)s outcomes?\n\nwhat orders leave is in no book, so S and R are not told\n"
-MISSING = rb"(?:no order is missing|1 order is missing, of rank %(n)s|%(n)s orders are missing, the first of rank %(n)s)\n"
+MISSING = rb"(?:; 1 order is missing, rank %(n)s|; %(m)s orders are missing, the first of rank %(n)s)?\n"
+BOOKS_HEAD = rb"[^\n]+: (?:%(m)s of )?%(m)s orders? in %(m)s class(?:es)?" + MISSING + LEVELS + rb"Books have no final rows: S and R are not known\.\n"
 BOOK = rb'\{"facts":\[.*\],"format":2,"outcomes":\[.*\],"spec":".*"\}\n'
-DIFFERS = rb"differs: classes gone %(n)s, new %(n)s, changed %(n)s" + b"".join(rb"(?:\n  " + part + rb"(?:\n    [^\n]+)+)?" for part in (b"gone", b"new", b"changed"))
-HAS_OTHERS = rb"has %(n)s orders?, accepted are %(n)s; what they leave and who fails is compared\n  .+"
-NO_ORDER = rb"differs, and (?:no order does|what is accepted is (?:no text of classes|a text of an earlier version))"
+DIFFERING = (b"orders", b"letters", b"results left out", b"gone", b"new", b"other numbers")
+DIFFERS = rb"differs: results gone %(n)s, new %(n)s, with other numbers %(n)s" + b"".join(rb"(?:\n  " + part + rb"(?:\n    [^\n]+)+)?" for part in DIFFERING)
+NO_RESULT = rb"(?:only the head of the record differs|differs, and what is accepted is no record of this version)"
 REFUSED = rb"(?:(?:spec error [1-9]|sql error [1-7]|bind error [2-8]|start error [1-3]) at %(n)s|too many different states: more than %(n)s)"
 IDLE = [b"isolation level", b"SET", b"NOT NULL", b"teardown", b"marker"]
 # What stands on standard output where no fault is told.
@@ -67,9 +70,9 @@ ANSWERS = {
     ("rank", 0): rb"%(n)s\n",
     ("order", 0): rb"[^ \n][^\n]*\n",
     ("show", 0): rb"\{\"format\":1,[^\n]*\}\n|[^ \n].*\n",
-    ("classes", 0): OBJECT + rb"\n|" + PAGE_FRONT + OBJECT + PAGE_BACK + rb"|" + CLASSES_TITLE + rb"\n\n.+\n",
-    ("classes", 1): EXPECTING + rb"\n|" + PAGE_FRONT + EXPECTING + PAGE_BACK + rb"|" + CLASSES_TITLE + rb"\n\nexpected of .+\n",
-    (CLASSES_OF_BOOKS, 0): rb'\{"format":1,[^\n]*"missing":[^\n]*\}\n|' + OUTCOMES_TITLE + MISSING + rb"\n.+\n",
+    ("classes", 0): OBJECT + rb"\n|" + PAGE_FRONT + OBJECT + PAGE_BACK + rb"|" + CLASSES_HEAD + rb"\n.+\n",
+    ("classes", 1): EXPECTING + rb"\n|" + PAGE_FRONT + EXPECTING + PAGE_BACK + rb"|" + CLASSES_HEAD + rb"\nexpect .+\n",
+    (CLASSES_OF_BOOKS, 0): rb'\{"format":2,[^\n]*"missing":[^\n]*\}\n|' + BOOKS_HEAD + rb"\n.+\n",
     ("run", 0): BOOK,
     ("join", 0): BOOK,
     ("missing", 0): rb"",
@@ -81,12 +84,12 @@ ANSWERS = {
     ("audit", 1): rb"false at rank %(n)s\n",
     # Tests here are of one spec.
     (TEST, 0): rb"[^\n]+: (?:as )?accepted\n",
-    (TEST, 1): rb"[^\n]+: (?:no accepted text|" + NO_ORDER + rb"|" + DIFFERS + rb"|" + HAS_OTHERS + rb")\n",
+    (TEST, 1): rb"[^\n]+: (?:no accepted text|" + NO_RESULT + rb"|" + DIFFERS + rb")\n",
     (TEST, 3): rb"[^\n]+: " + REFUSED + rb"\n",
     ("judge", 0): rb"matches %(n)s\n",
     ("judge", 1): rb"(?:%(n)s differs at rank %(n)s session [0-7]\n)+(?:nearest is %(n)s\naccepted: .+\nhere: .+\n)?",
 }
-ANSWERS = {one: re.compile(pattern.replace(b"%(n)s", N.encode()), re.DOTALL) for one, pattern in ANSWERS.items()}
+ANSWERS = {one: re.compile(pattern.replace(b"%(n)s", N.encode()).replace(b"%(m)s", M.encode()), re.DOTALL) for one, pattern in ANSWERS.items()}
 
 
 def called(words):

@@ -8,6 +8,7 @@ from pathlib import Path
 
 import sql
 from binding import bind
+from checks import blocks
 from machine import FAULTS, printed, written
 from moments import HOLDS, NOT_SENT, RESUMED, WAITS, shown
 from orders import NoOrder, rank_of, spelled
@@ -59,8 +60,28 @@ class Order:
         file = read_spec(text)
         self.spec, self.path, self.rank = bind(file), path, rank
         self.line = self.spec.line(rank)
-        self.statements = statements_of(file)
+        self.statements, self.lines_with_levels = statements_of(file), lines_with_levels(text, file)
         self.shown = shown(self.spec, self.line)
+
+
+# ---- levels
+
+
+def line_of(text, place):
+    return 1 + text[:place].count(b"\n")
+
+
+def lines_with_levels(text, file):
+    """The lines of a file on which a transaction begins with another level than SERIALIZABLE, each once."""
+    begun = [(block.start + one.at, one) for block, _declares in blocks(file) for one in sql.read_sql(block.text) if isinstance(one, sql.Begin)]
+    return [*dict.fromkeys(line_of(text, place) for place, one in begun if one.level not in (None, "serializable"))]
+
+
+def level_lines(lines):
+    """The line that says that levels have no effect, where there are any."""
+    if lines:
+        levels = f"level (line {lines[0]}) has" if len(lines) == 1 else f"levels (lines {', '.join(map(str, lines))}) have"
+        yield f"locking: strict two-phase locking; isolation {levels} no effect"
 
 
 # ---- texts, widths and cuts
@@ -245,6 +266,8 @@ def marks(moments):
 def head_lines(order, lanes):
     columns = f", {lanes.columns} columns wide" if lanes.columns > WIDTH else ""
     yield from broken(f"{visible(order.path)}: rank {order.rank} of {order.spec.ranks()}{columns}", WIDTH, 0, 0)
+    for line in level_lines(order.lines_with_levels):
+        yield from broken(line, WIDTH, 0, 0)
     names = [visible(spelled(order.spec.step_names[step])) for step in order.line]
     yield from broken(" ".join(map("".join, zip(names, marks(order.shown.moments), strict=True))), WIDTH, 0, 0)
 

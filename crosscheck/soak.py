@@ -33,13 +33,10 @@ import compare_book_classes
 import compare_classes
 import compare_files
 import compare_hostile
-from asked import ANSWERS, FILTERS, HTML, JSON, LEFT, OUTCOMES
-from asking import opposite
-from book_class_laws import read_back as books_read_back
-from book_classes import FLAGS
 from books import compact
 from checks import checked, without_sentence
-from class_objects import read_back
+from class_pages import read_back
+from class_request import ALL_ORDERS, BOOK_FLAGS, BY_RESULT, FILTERS, FINAL_ROWS, HTML, JSON, OUTCOMES, opposite
 from compare import PROGRAM, difference, fault_of
 from damage import DAMAGES_OF_BYTES
 from generate import KINDS, Maker, fresh_seed
@@ -191,13 +188,15 @@ class Soak:
 
     def classes(self, path, number, starts):
         """All orders in classes, as text, as JSON or as a page, and those that pass a filter beside those that do not."""
-        flags = [flag for flag in (ANSWERS, OUTCOMES, LEFT) if self.random.random() < 0.5] + self.random.choice([[], [JSON], [HTML]])
+        flags = [flag for flag in (ALL_ORDERS, BY_RESULT, OUTCOMES, FINAL_ROWS) if self.random.random() < 0.5] + self.random.choice([[], [JSON], [HTML]])
         ran = self.run("classes", path, *flags)
         self.hold(ran.status == (0 if starts else 3), "orders are not classed", ran)
-        word = self.random.choice([word for word, (letter, _has) in FILTERS.items() if letter != "R"])
+        names = [name for name, letter in FILTERS.items() if letter != "R" and (letter != "N" or ALL_ORDERS in flags)]
+        word = f"--{self.random.choice(names)}"
         runs = [self.run("classes", path, one, *flags) for one in (word, opposite(word))]
         self.hold_same([(ran.status, ran.error) for ran in (ran, *runs)], "a filter has another fault", ran, *runs)
-        is_whole = not starts or sum(read_back(one.out).asked for one in runs) == number
+        is_whole = not starts or sum(read_back(one.out).asked for one in runs) == read_back(ran.out).asked
+        self.hold(not starts or ALL_ORDERS not in flags or read_back(ran.out).asked == number, "permutations are not all counted", ran)
         self.hold(is_whole, "a filter and its opposite have not all orders", *runs)
 
     # books
@@ -241,12 +240,12 @@ class Soak:
             self.hold((ran.status, ran.out) == (int(bool(wanted)), lines), "other ranks are to be run than those of no range", ran)
         ran, halves = self.run("missing", whole), self.run("missing", low, high)
         self.hold_same([ran.told, halves.told], "halves of a range miss other ranks than the whole", ran, halves)
-        asked = number - books_read_back(self.run("classes", "--book", whole).out).asked
+        asked = number - read_back(self.run("classes", "--book", whole).out).asked
         told = [[int(word) for word in line.split(b"-")] for line in ran.out.splitlines()]
         self.hold(sum(one[-1] - one[0] + 1 for one in told) == asked, "other orders are missing than classes have", ran)
 
     def flags_of_books(self):
-        return [flag for flag in FLAGS if self.random.random() < 0.5]
+        return [flag for flag in BOOK_FLAGS if self.random.random() < 0.5]
 
     def classes_of_books(self, ends, whole, every, low, high):
         """What the books of a range tell in classes: at once and of its halves, and where all is run, of which no order is missing."""
@@ -256,7 +255,7 @@ class Soak:
         self.hold(ran.status == all_run.status == 0, "books of a range have no classes", ran, all_run)
         told = [without_name(ran, whole), without_name(halves, low, high)]
         self.hold_same(told, "halves of a range have other classes than the whole", ran, halves)
-        self.hold(books_read_back(all_run.out).asked == ends[1] - ends[0], "a book of a range tells of more or fewer orders", all_run)
+        self.hold(read_back(all_run.out).asked == ends[1] - ends[0], "a book of a range tells of more or fewer orders", all_run)
         if ends[0] == 0:
             self.hold_same([told[0], without_name(all_run, every)], "the orders that are skipped are in other classes", ran, all_run)
 

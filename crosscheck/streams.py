@@ -12,9 +12,9 @@ import time
 from pathlib import Path
 from tempfile import TemporaryDirectory
 
-from asked import Asked
 from book_classes import BookClasses, BookPage
 from books import book_text, facts_of
+from class_request import OLD_WORDS, Request
 from compare import PROGRAM, PROGRESS, STATES, difference, ended, expected, told
 from compare_files import answer, order, run
 from damage import text_of
@@ -31,16 +31,14 @@ BOOK_OF_ONE = book_text(SPEC, {fact for fact in FACTS if fact[0] == 1}).encode()
 # Two books with as many facts as are read, which are over the limit of a book together.
 MANY = 20_000_000
 FAR_BOOKS = [text_of({"facts": [[first, MANY, "ran", 0]], "format": 2, "outcomes": [[[]] * 8], "spec": LARGE}) for first in (0, MANY)]
-FAR_TEXT = b"""2 books: 40000000 of 9116650868204880000 orders, 1 outcome
+FAR_TEXT = b"""2 books: 40,000,000 of 9,116,650,868,204,880,000 orders in 1 class; 9,116,650,868,164,880,000 orders are missing, the first of rank 40000000
+Books have no final rows: S and R are not known.
 
-what orders leave is in no book, so S and R are not told
-9116650868164880000 orders are missing, the first of rank 40000000
-
-                    orders  share %  outcomes
-    W                    0        0         0  a session waits
-    D                    0        0         0  a session loses a deadlock
-    E                    0        0         0  another error of its own
-    N                    0        0         0  a step is not sent, since its session waits
+      orders  share  classes
+  W        0   0.0%        0  a session waits
+  D        0   0.0%        0  a session is the victim of a deadlock
+  E        0   0.0%        0  another error
+  N        0   0.0%        0  a step is not sent: its session waits
 """
 FILES = {
     "far.book": FAR_BOOKS[0],
@@ -66,12 +64,12 @@ FILES = {
     "empty": b"",
 }
 GOOD = ["one first.spec 0", "check first.spec", "count first.spec", "rank first.spec a1 b1", "order first.spec 1", "show first.spec 1", "run first.spec 0 2", "join all.book", "report all.book"]
-GOOD += ["show first.spec a1 b1 --json", "classes first.spec", "classes first.spec --answers --brief", "classes first.spec --waits --no-serial --outcomes --left", "classes first.spec --json", "classes first.spec --html", "classes --answers --html first.spec", "holds all.book first.spec 0 2", "run first.spec 0 2 --workers 16", "audit all.book", "judge all.book all.book", "judge all.book all.book --show"]
+GOOD += ["show first.spec a1 b1 --json", "classes first.spec", "classes first.spec --by-result --brief", "classes first.spec --waits --anomaly --outcomes --final-rows", "classes first.spec --json", "classes first.spec --html", "classes --by-result --html first.spec", "classes first.spec --all-orders --not-sent --memory 500", "holds all.book first.spec 0 2", "run first.spec 0 2 --workers 16", "audit all.book", "judge all.book all.book", "judge all.book all.book --show"]
 GOOD += ["run first.spec", "missing one.book", "missing one.book --lines"]
 GOOD += ["test first.spec", "test first.spec many.spec --workers 16", "test --update first.spec", "test --junit report.xml first.spec folder.accepted"]
 GOOD += ["classes --book all.book", "classes --book one.book all.book --json --ranks", "classes --outcomes --book clash.book --ranks"]
 HELP = ["help", "--help", "--version", *(f"{line} --help" for line in ("one", "check", "count", "rank", "order", "show", "classes", "run", "join", "missing", "holds", "report", "audit", "judge", "test"))]
-FAULTS = {"one first.spec 2": 3, "classes first.spec --deadlock=c": 3, "classes --json first.spec --deadlock=c": 3, "classes --html first.spec --deadlock=c": 3, "classes first.spec --look SELECT": 3, "report one.book": 1, "classes --book all.book clash.book": 1, "missing all.book clash.book": 1, "missing nothing": 5, "run large.spec": 3, "classes --book one.book half.book": 3, "classes --book nothing": 5, "count nothing": 5, "two first.spec 0": 2, "test first.spec folder": 3}
+FAULTS = {"one first.spec 2": 3, "classes first.spec --deadlock=c": 3, "classes --json first.spec --deadlock=c": 3, "classes --html first.spec --deadlock=c": 3, "classes first.spec --query SELECT": 3, "report one.book": 1, "classes --book all.book clash.book": 1, "missing all.book clash.book": 1, "missing nothing": 5, "run large.spec": 3, "classes --book one.book half.book": 3, "classes --book nothing": 5, "count nothing": 5, "two first.spec 0": 2, "test first.spec folder": 3}
 NO_COMMANDS = ["", "one", "one first.spec", "one first.spec x", "one first.spec -1", f"one first.spec {U64}", "two first.spec 0"]
 NO_COMMANDS += ["check", "check first.spec 0", "count", "count first.spec 0", "run first.spec 0", f"run first.spec 0 {U64}", "run first.spec 0 1 --all", "join"]
 NO_COMMANDS += [f"join{' all.book' * 1001}", "report", "report all.book all.book", "report --every all.book"]
@@ -81,8 +79,10 @@ NO_COMMANDS += ["show", "show first.spec", "show first.spec --json", f"show firs
 NO_COMMANDS += ["classes", "classes first.spec 0", "classes first.spec --workers 1", "classes first.spec --ranks", "classes --ranks --json first.spec", "classes --ranks", "classes first.spec --json --json", "classes first.spec --json=1"]
 NO_COMMANDS += ["classes first.spec --html --json", "classes --json first.spec --html", "classes --brief --html first.spec", "classes first.spec --html --html", "classes first.spec --html=1", "classes --html", "show first.spec 0 --html"]
 NO_COMMANDS += ["classes --book", "classes --book --json", "classes --book all.book --json --json", "classes first.spec --book all.book", "classes --json first.spec --book all.book", f"classes --book{' all.book' * 1001}"]
-NO_COMMANDS += [f"classes --book all.book {flag}" for flag in ("--left", "--answers", "--waits", "--no-deadlock", "--look SELECT", "--workers 2", "--progress", "--html", "--every")]
-NO_COMMANDS += ["classes first.spec --look", "classes first.spec --expect", "classes first.spec --filter", "classes first.spec --expect SELECT"]
+NO_COMMANDS += [f"classes --book all.book {flag}" for flag in ("--final-rows", "--by-result", "--all-orders", "--waits", "--no-deadlock", "--query SELECT", "--workers 2", "--progress", "--memory 500", "--html", "--every")]
+NO_COMMANDS += [f"classes first.spec {word}{' SELECT' * (word == '--look')}" for word in OLD_WORDS]
+NO_COMMANDS += ["classes first.spec --not-sent", "classes first.spec --no-not-sent", *(f"classes first.spec --memory {number}" for number in ("", "0", "1000001", "x"))]
+NO_COMMANDS += ["classes first.spec --query", "classes first.spec --expect", "classes first.spec --filter", "classes first.spec --expect SELECT"]
 NO_COMMANDS += ["classes first.spec --expect SELECT --brief", "classes first.spec --expect SELECT -x"]
 NO_COMMANDS += ["holds", "holds all.book first.spec 0", "holds all.book first.spec 0 x", "holds all.book first.spec 0 1 2"]
 NO_COMMANDS += ["missing", "missing --lines", "missing all.book --ranks", "missing --lines all.book --lines", f"missing{' all.book' * 1001}"]
@@ -183,7 +183,7 @@ def answers():
     yield ["join", "one.book", "all.book"], (0, BOOK, b"")
     yield ["report", "one.book"], line(1, "one.book: missing rank 0")
     for name, books in (("all.book", 1), ("1000 books", 1000)):
-        yield ["classes", "--book", *["all.book"] * books], (0, BookPage(CLASSES, name, Asked()).text().encode(), b"")
+        yield ["classes", "--book", *["all.book"] * books], (0, BookPage(CLASSES, name, Request()).text().encode(), b"")
     # What is not written has no limit.
     yield ["classes", "--book", "far.book", "farther.book", "--brief"], (0, FAR_TEXT, b"")
     yield ["join", "far.book", "farther.book"], line(3, "book error 8")
@@ -239,7 +239,7 @@ def inputs(folder):
     yield ["test", "-"], SPEC, (1, b"-: no accepted text\n", b"")
     yield ["test", "-", "first.spec"], SPEC[:9], (3, b"-: spec error 3 at 6\nfirst.spec: as accepted\n", b"")
     yield ["test", "./-"], SPEC, (5, b"./-: read fault\n", b"")
-    yield ["classes", "--book", "-"], BOOK, (0, BookPage(CLASSES, "-", Asked()).text().encode(), b"")
+    yield ["classes", "--book", "-"], BOOK, (0, BookPage(CLASSES, "-", Request()).text().encode(), b"")
     yield ["one", "-", "2"], SPEC, line(3, "-: rank out of range")
     yield ["count", "-"], b"", line(3, "-: spec error 5 at 0")
     yield ["report", "-"], BOOK_OF_ONE, line(1, "-: missing rank 0")
@@ -304,7 +304,7 @@ def progress_in(folder):
     """For words that tell how far they are: what is wrong, or nothing."""
     # Of sessions without statements a state is how many steps each has sent. From each of them a step leads on for each session that has one left.
     for spec, states, steps in [("first.spec", *STATES_OF_FIRST), ("many.spec", 64, 144)]:
-        for flags in ("", "--answers", "--no-waits --brief", "--json", "--html"):
+        for flags in ("", "--by-result", "--no-waits --brief", "--json", "--html"):
             yield wrong_progress(folder, ["classes", spec, *flags.split()], lambda error, seconds: states_fault(error, states, steps, seconds))
     for spec, first, end in [("first.spec", 0, 2), ("first.spec", 1, 1), ("large.spec", 7, 3_007), ("large.spec", U32, U32 + 60_020)]:
         for flags in ("", "--workers 1", "--workers 16", "--every", "--every --workers 1"):

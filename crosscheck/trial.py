@@ -4,7 +4,7 @@ usage: python3 crosscheck/trial.py PROGRAM SEED
 
 A repository of 20 specs is made: examples, some written by hand, some from the seed. They are accepted, edited, tested, and accepted again.
 What is told is that of this second implementation, and of some what was worked out by hand; nothing is written that need not be. Reports
-in the form of JUnit are read by a standard parser. Then accepted texts are written where files may not grow, where a disk is full, where
+in the form of JUnit are read by a standard parser. Then accepted records are written where files may not grow, where a disk is full, where
 system calls fail, and by runs that are killed at any of them or at any moment: each is the old one or the new one, and a later run mends all.
 Last come files and folders that are not as they should be. A full disk needs root, and failing and killed calls need strace: where they
 are not there, that part says that it was left out.
@@ -77,7 +77,7 @@ def hold_by_hand(trial, repository):
             status, lines = told
             path = f"{FOLDER}/{path}"
             trial.hold(f"{path}, here", repository.told(path), (status, f"{path}: {lines}".encode()))
-    trial.hold("moved, here", repository.told(f"{FOLDER}/{MOVED[1]}"), (1, f"{FOLDER}/{MOVED[1]}: differs, and no order does\n".encode()))
+    trial.hold("moved, here", repository.told(f"{FOLDER}/{MOVED[1]}"), (1, f"{FOLDER}/{MOVED[1]}: only the head of the record differs\n".encode()))
 
 
 def use(trial, repository):

@@ -12,8 +12,8 @@ ONE, OLD = b"session a step s {}\n", b"old\n" * 2_000
 PAGE = Accepted("a.spec", ONE).page
 SAME, ACCEPTED, NONE, NOT_WRITTEN, UNREAD = "as accepted", "accepted", "no accepted text", "accepted text not written", "read fault"
 NO_REPORT = "report not written"
-NO_TEXT, NO_ORDER = "differs, and what is accepted is no text of classes", "differs, and no order does"
-STATUSES = {SAME: 0, ACCEPTED: 0, NONE: 1, NO_TEXT: 1, NO_ORDER: 1, NOT_WRITTEN: 5, NO_REPORT: 5}
+NO_RECORD, HEAD = "differs, and what is accepted is no record of this version", "only the head of the record differs"
+STATUSES = {SAME: 0, ACCEPTED: 0, NONE: 1, NO_RECORD: 1, HEAD: 1, NOT_WRITTEN: 5, NO_REPORT: 5}
 MOST_SPECS, MOST_DEPTH, MOST_ACCEPTED = 1_000, 32, 67_108_864
 NOBODY = 65_534
 
@@ -101,31 +101,33 @@ def of_links():
     yield Odd("a link as a path", {"l": Link("b"), **specs("b/a")}, ["l"], [("l/a.spec", SAME)])
     yield Odd("a ring of links", {"b/l": Link("../b"), **specs("b/a")}, ["."], [("./b/a.spec", SAME)])
     linked = {"a.spec": ONE, "a.accepted": Link("kept")}
-    yield Odd("an accepted text that is a link", {"kept": PAGE} | linked, UPDATE, [("a.spec", SAME)])
+    yield Odd("an accepted record that is a link", {"kept": PAGE} | linked, UPDATE, [("a.spec", SAME)])
     yield Odd("one to another text", {"kept": OLD} | linked, UPDATE, [("a.spec", ACCEPTED)], left=NEW)
     yield Odd("one to nothing", linked, ["a.spec"], [("a.spec", NONE)])
     yield Odd("one to nothing, written", linked, UPDATE, [("a.spec", ACCEPTED)], left=NEW)
 
 
 def of_texts():
-    for name, text in {"no byte": b"", "no UTF-8": b"\xff" + PAGE, "a bad byte": PAGE.replace(b"session", b"sessio\xff"), "CRLF": PAGE.replace(b"\n", b"\r\n")}.items():
-        yield Odd(f"an accepted text with {name}", A | {"a.accepted": text}, ["a.spec"], [("a.spec", NO_TEXT)])
+    for name, text in {"no byte": b"", "no UTF-8": b"\xff" + PAGE, "a bad byte": PAGE.replace(b"strict", b"stric\xff"), "CRLF": PAGE.replace(b"\n", b"\r\n")}.items():
+        yield Odd(f"an accepted text with {name}", A | {"a.accepted": text}, ["a.spec"], [("a.spec", NO_RECORD)])
         yield Odd(f"one with {name}, accepted", A | {"a.accepted": text}, UPDATE, [("a.spec", ACCEPTED)], left=NEW)
-    yield Odd("one with something behind", A | {"a.accepted": PAGE + b"more\n"}, ["a.spec"], [("a.spec", NO_ORDER)])
+    for name, text in {"a line without its end": PAGE + b"more", "an empty line": PAGE + b"\n", "another version": PAGE.replace(b"record 1", b"record 2")}.items():
+        yield Odd(f"one with {name}", A | {"a.accepted": text}, ["a.spec"], [("a.spec", NO_RECORD)])
+    yield Odd("one of another name", A | {"a.accepted": PAGE.replace(b"spec a", b"spec b")}, ["a.spec"], [("a.spec", HEAD)])
     for size in (MOST_ACCEPTED, MOST_ACCEPTED + 1, 40 * MOST_ACCEPTED):
         for front in (b"", PAGE):
             files = A | {"a.accepted": Sparse(front, size)}
-            yield Odd(f"one of {size} bytes", files, ["a.spec"], [("a.spec", NO_ORDER if front else NO_TEXT)])
+            yield Odd(f"one of {size} bytes", files, ["a.spec"], [("a.spec", NO_RECORD)])
         yield Odd(f"one of {size} bytes, accepted", files, UPDATE, [("a.spec", ACCEPTED)], left=NEW)
     for name, text in {"no byte": b"", "no UTF-8": ONE + b"\xff", "too many bytes": ONE + b" " * 65_536, "a NUL": ONE + b"\0"}.items():
         yield Odd(f"a spec with {name}", A | {"a.spec": text}, UPDATE, [("a.spec", of_text(text))])
     yield Odd("a spec with CRLF", A | {"a.spec": ONE.replace(b" ", b"\r\n")}, ["a.spec"], [("a.spec", SAME)])
     for name in ("a.spec", "a"):
         for words in ([name], ["--update", name]):
-            yield Odd(f"a folder in the place of the accepted text of {name}", {name: ONE, "a.accepted": Folder}, words, [(name, f"a.accepted: {UNREAD}")])
+            yield Odd(f"a folder in the place of the accepted record of {name}", {name: ONE, "a.accepted": Folder}, words, [(name, f"a.accepted: {UNREAD}")])
     yield Odd("a spec of another name", {"a.sql": ONE, "a.sql.accepted": Accepted("a.sql", ONE).page}, ["a.sql"], [("a.sql", SAME)])
     yield Odd("a spec that is shut", A, ["a.spec"], [("a.spec", UNREAD)], shut={"a.spec": 0})
-    yield Odd("an accepted text that is shut", A, ["a.spec"], [("a.spec", NONE)], shut={"a.accepted": 0})
+    yield Odd("an accepted record that is shut", A, ["a.spec"], [("a.spec", NONE)], shut={"a.accepted": 0})
 
 
 def of_numbers():

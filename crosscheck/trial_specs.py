@@ -48,11 +48,19 @@ EDITS = [
         (f"{GUARD}; }}\nsession b\nstep b1 {{ {ADDS}{GUARD}", f"{GUARD}; }}\nsession b\nstep b1 {{ {ADDS}"),
         (
             1,
-            """differs: classes gone 1, new 1, changed 0
+            """differs: results gone 1, new 1, with other numbers 0
   gone
-        1       1     50.0  ------     0  a1 b1
+    1 of 2 orders
+      first: a1 b1
+      a: updated 1
+      b: updated 0
+      t: 1|1
   new
-        1       1     50.0  ------     0  a1 b1
+    1 of 2 orders
+      first: a1 b1
+      a: updated 1
+      b: updated 1
+      t: 1|2
 """,
         ),
     ),
@@ -62,18 +70,39 @@ EDITS = [
         ("]]> \"\"it's\"\"", "--> &amp;"),
         (
             1,
-            """differs: classes gone 1, new 1, changed 0
-  gone
-        1       1    100.0  ------     0  "]]> ""it's\"""
-  new
-        1       1    100.0  ------     0  "--> &amp;"
+            """differs: results gone 0, new 0, with other numbers 1
+  other numbers
+    was: 1 of 1 order, first: "]]> ""it's\"""
+    is: 1 of 1 order, first: "--> &amp;"
 """,
         ),
     ),
     (
         "größe 日本\u2028é.spec",
         (MORE, f"step more {{ INSERT INTO t VALUES (1); }}\n{MORE}"),
-        (1, "has 3 orders, accepted are 2; what they leave and who fails is compared\n  can fail now\n    session a: error: duplicate key\n"),
+        (
+            1,
+            """differs: results gone 1, new 1, with other numbers 0
+  orders
+    was: 2
+    is: 3
+  letters
+    was: W 0  D 0  E 0  S 0  R 0
+    is: W 0  D 0  E 3  S 0  R 0
+  gone
+    2 of 2 orders
+      first: s r
+      a: inserted 1
+      b: inserted 1
+      t: 1, 2
+  new
+    3 of 3 orders
+      first: s more! r
+      a: inserted 1, error: duplicate key
+      b: inserted 1
+      t: 1, 2
+""",
+        ),
     ),
     ("deep/x.spec/deeper/broken.spec", (ONE, "session a\nstep s {"), (3, "spec error 3 at 17\n")),
     (
@@ -81,16 +110,15 @@ EDITS = [
         ("step s", "step r"),
         (
             1,
-            """differs: classes gone 1, new 1, changed 0
-  gone
-        1       1    100.0  ------     0  s
-  new
-        1       1    100.0  ------     0  r
+            """differs: results gone 0, new 0, with other numbers 1
+  other numbers
+    was: 1 of 1 order, first: s
+    is: 1 of 1 order, first: r
 """,
         ),
     ),
 ]
-# Where the accepted text is taken away, and where it goes along to another name, which stands in its title.
+# Where the accepted record is taken away, and where it goes along to another name, which stands in its head.
 WITHOUT = "from examples/first.spec"
 MOVED = "moved.spec", "moved on.spec"
 # What lies there and is no spec.
@@ -103,7 +131,7 @@ def accepted_path(path):
 
 @lru_cache(maxsize=None)
 def side_of(name, text):
-    """The classes of a spec. Raises a Refusal where there are none."""
+    """The record of a spec. Raises a Refusal where there is none."""
     return Side(name, text)
 
 
@@ -131,12 +159,12 @@ def told_of(path, accepted, text):
     if status != 3 and accepted is None:
         return 1, f"{path}: no accepted text\n".encode()
     if status == 0 and accepted.name != name:
-        return 1, f"{path}: differs, and no order does\n".encode()
+        return 1, f"{path}: only the head of the record differs\n".encode()
     return status, path.encode() + out.removeprefix(name.encode())
 
 
 def has_few_orders(text):
-    """Whether a text is a spec that has classes and few orders."""
+    """Whether a text is a spec that has a record and few orders."""
     spec = bound(text)
     if not spec or spec.ranks() > MOST_ORDERS:
         return False
@@ -206,18 +234,18 @@ class Repository:
         return told_of(path, self.accepted[path], self.now[path])
 
     def updated(self, path):
-        """The status and the line of a spec with `--update`, and whether a text is written."""
+        """The status and the line of a spec with `--update`, and whether a record is written."""
         status, out = self.told(path)
         return (0, f"{path}: accepted\n".encode(), True) if status == 1 else (status, out, False)
 
     def accept(self):
-        """What is known once texts were written."""
+        """What is known once records were written."""
         for path, text in self.now.items():
             if self.updated(path)[2]:
                 self.accepted[path] = Accepted(name_of(path), text)
 
     def pages(self):
-        """The accepted text of each spec that has one, by its path."""
+        """The accepted record of each spec that has one, by its path."""
         return {accepted_path(path): accepted.page for path, accepted in self.accepted.items() if accepted}
 
     def files(self):

@@ -1,4 +1,4 @@
-"""Accepted texts and reports that are written where a write fails, or by runs that are killed: each file is the old one or the new one."""
+"""Accepted records and reports that are written where a write fails, or by runs that are killed: each file is the old one or the new one."""
 
 import os
 import resource
@@ -18,10 +18,10 @@ NO_REPORT = f"{REPORT}: report not written\n".encode()
 WORDS = ["--update", "--junit", REPORT, FOLDER]
 ACCEPTED, SAME, NOT_WRITTEN = b"accepted\n", b"as accepted\n", b"accepted text not written\n"
 WRITE_FAULT = b"isofarm: write fault\n"
-# An accepted text that is longer than those which take its place, and no text of classes.
+# An accepted text that is longer than the records which take its place, and no record.
 OLD_TEXT = b"old\n" * 4_000
 # How many bytes a file may have, and how many pages of a disk are free.
-LIMITS, FREE_PAGES = [0, 1, 640, 900, 2_000, 4_095, 100_000], [0, 1, 2, 3, 5, 8, 40]
+LIMITS, FREE_PAGES = [0, 1, 150, 280, 640, 1_000, 100_000], [0, 1, 2, 3, 5, 8, 40]
 PAGE, DISK = 4_096, 1 << 20
 KILLS_AT_ANY_MOMENT = 40
 # What fills files and names them, by the names that machines have for it, and how it may fail. Before a call that fills a file that is there and
@@ -31,7 +31,7 @@ MOST_CALLS = 2_000
 
 
 class Writes:
-    """A repository in which a third of the accepted texts is there, a third is another one, and a third is not there."""
+    """A repository in which a third of the accepted records is there, a third is another text, and a third is not there."""
 
     def __init__(self, trial, top, seed):
         self.trial, self.repository = trial, Repository(top, seed)

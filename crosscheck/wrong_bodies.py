@@ -16,7 +16,7 @@ A NAME is that of the file, or CRATE/NAME. Without names all are tried that a ca
 K of them, half by the prover where --prove stands too. Which ones goes by the seed N, which is printed. --landing tries three by tests and three by the prover, taken by the files of
 the newest commit. For a case or a test the program is compiled anew in a copy with that body. The prover looks at the one function, over the libraries that `rt ci` has
 left in this checkout. As many are tried side by side as there are processors. out/wrong_bodies.md gets a table of what was told by what. --check builds
-nothing: it looks whether all that the files name is there. The exit status is 1 where a body is not told.
+nothing: it looks whether all that the files name is there, and whether a clause is of a function that is changed. The exit status is 1 where a body is not told.
 """
 
 import argparse
@@ -126,9 +126,24 @@ def is_told_by(body):
     return False
 
 
+def functions_changed(body):
+    """The functions of sources in which the lines stand that a body changes. A constant above all functions is in none."""
+    for file, old, _new in body.changes:
+        text = (TOP / file).read_text() if file.endswith(".rt") and (TOP / file).is_file() else ""
+        yield from re.findall(r"\bfn (\w+)", text[: text.find(old) + len(old)])[-1:]
+
+
+def is_of_its_clause(body):
+    """Whether the prover looks at a function that a body changes. What changes no function is refused by whatever stands on it."""
+    functions = [*functions_changed(body)]
+    return body.kind != "clause" or not functions or any(path.split("::")[-1] in functions for path in body.teller[1:2])
+
+
 def faults_of(body):
     """What a file names that is not there."""
     faults = body.faults + changed(body)[1]
+    if not is_of_its_clause(body):
+        faults.append(f"changes another function than that of its clause: {' '.join(functions_changed(body))}")
     if not is_told_by(body):
         faults.append(f"names as what tells it: {body.kind} {' '.join(body.teller)}, which is not there")
     return [f"wrong_bodies/{body.name}.edit {fault}" for fault in faults]

@@ -95,9 +95,9 @@ async function makeCore(wasmBytes, {memory = 0} = {}) {
     return textOrFault(textOf(spec, name, (given, got) => calls.page_show(...given, BigInt.asUintN(64, BigInt(rank)), ...got)));
   }
 
-  // What `isofarm classes SPEC --json` prints, or with --answers.
-  function classes(spec, name, {answers = false} = {}) {
-    return textOrFault(textOf(spec, name, (given, got) => calls.page_classes(...given, answers ? 1 : 0, ...got)));
+  // What `isofarm classes SPEC --json` prints, or with --by-result.
+  function classes(spec, name, {byResult = false} = {}) {
+    return textOrFault(textOf(spec, name, (given, got) => calls.page_classes(...given, byResult ? 1 : 0, ...got)));
   }
 
   // What `isofarm check SPEC` prints, and each fault of it: {line, column, sentence, place}, where the place is an offset in the spec's bytes. Of a spec that

@@ -1,16 +1,16 @@
 'use strict';
-// Shows the classes of a spec's orders, and the least order of each, moment by moment. All that a spec says goes into the page as
+// Shows the classes of a spec's orders, and the first order of each, moment by moment. All that a spec says goes into the page as
 // text, and never as markup.
 
 const $ = id => document.getElementById(id);
 // Each letter that a class may have, with its word and what it means.
 const LETTERS = {
   W: ['waits', 'a session waits'],
-  D: ['deadlock', 'a session loses a deadlock'],
-  E: ['error', 'another error of its own'],
-  N: ['not sent', 'a step is not sent, since its session waits'],
-  S: ['still waits', 'a session still waits at the end'],
-  R: ['anomaly', 'anomaly: no serial order gives this result'],
+  D: ['deadlock', 'a session is the victim of a deadlock'],
+  E: ['error', 'another error'],
+  N: ['not sent', 'a step is not sent: its session waits'],
+  S: ['waits for ever', 'a session waits for ever'],
+  R: ['anomaly', 'anomaly: no error, yet no serial order gives this result'],
 };
 const KEYWORDS = ['notices', 'permutation', 'session', 'setup', 'step', 'teardown'];
 const OPEN = { in: ' is in a transaction', failed: ' is in a failed block', waits: ' waits' };
@@ -35,7 +35,11 @@ function h(tag, props, ...children) {
 }
 const number = new Intl.NumberFormat('en').format;
 const plural = (count, word, words) => `${number(count)} ${Number(count) === 1 ? word : words || `${word}s`}`;
-const share = (count, all) => `${(Math.max(all ? Number(BigInt(count) * 1000n / BigInt(all)) : 0, count ? 1 : 0) / 10).toFixed(1)} %`;
+// A part in percent, rounded as in the text.
+const share = (count, all) => {
+  const tenths = all ? (2000n * BigInt(count) + BigInt(all)) / (2n * BigInt(all)) : 0n;
+  return count && !tenths ? '<0.1%' : `${tenths / 10n}.${tenths % 10n}%`;
+};
 const spaced = (parts, by) => parts.flatMap((part, at) => at ? [by, part] : [part]);
 const listed = parts => parts.flatMap((part, at) => at ? [at === parts.length - 1 ? ' and ' : ', ', part] : [part]);
 const visible = text => text.replace(HIDDEN, one => `\\u{${one.codePointAt(0).toString(16)}}`);
@@ -51,20 +55,20 @@ const span = (kind, ...parts) => h('span', { class: kind }, ...parts);
 const pill = (kind, text) => span(`pill ${kind}`, text);
 
 // What is shown: the classes, who gives the order of one, which letters are wanted, how rows stand, and which class is picked.
-let data, source, want = {}, by = 'least', picked = 0, drawnRows = MOST_ROWS, drawing = 0, linked = 0;
+let data, source, want = {}, by = 'first', picked = 0, drawnRows = MOST_ROWS, drawing = 0, linked = 0;
 let linkTo = at => `#class=${at + 1}`;
 const who = session => name(data.sessions[session]);
 const stepOf = step => name(step === null ? 'setup' : data.steps[step].name);
-const isByAnswers = () => data.by === 'answers';
-const classWord = () => isByAnswers() ? 'answer' : 'class';
-const classesWord = count => isByAnswers() ? plural(count, 'answer') : plural(count, 'class', 'classes');
+const isByResult = () => data.by === 'answers';
+const classWord = () => isByResult() ? 'result' : 'class';
+const classesWord = count => isByResult() ? plural(count, 'result') : plural(count, 'class', 'classes');
 
 /* the classes */
 
-// The steps of a class's order with what becomes of each, by what its session is told, turn by turn.
+// The steps of a class's order with what becomes of each, by the transcript of its session, turn by turn.
 function turnsOf(one) {
   const turns = one.order.map(step => ({ step }));
-  one.told.forEach((lines, session) => {
+  one.transcripts.forEach((lines, session) => {
     const own = turns.filter(turn => data.steps[turn.step].session === session);
     let next = 0, sent = {};
     for (const line of lines) {
@@ -85,11 +89,11 @@ function orderShown(one) {
   }), ' ');
 }
 
-const tagsOf = one => Object.keys(LETTERS).filter(letter => one.shows.includes(letter)).map(letter => span(letter, LETTERS[letter][0]));
-const nothingOf = () => !isByAnswers() ? 'nobody waits' : data.totals.R ? 'as a serial order answers' : 'no error';
-const isAsked = one => Object.entries(want).every(([letter, how]) => (how === 'with') === one.shows.includes(letter));
-// What a look sees: its rows, or that there is none, or an error.
-const seenText = lines => lines.filter(line => !line.startsWith('rows ') || lines.length === 1).map(line => line.replace(/^row /, '')).join(', ');
+const tagsOf = one => Object.keys(LETTERS).filter(letter => one.letters.includes(letter)).map(letter => span(letter, LETTERS[letter][0]));
+const nothingOf = () => !isByResult() ? 'nobody waits' : data.totals.R ? 'result of a serial order' : 'no error';
+const isAsked = one => Object.entries(want).every(([letter, how]) => (how === 'with') === one.letters.includes(letter));
+// What a query finds: its rows, or that there is none, or an error.
+const foundText = lines => lines.join() === 'rows 0' ? 'no row' : lines.filter(line => !line.startsWith('rows ')).map(line => line.replace(/^row /, '')).join(', ');
 
 function placesAsked() {
   const places = data.classes.map((_one, at) => at).filter(at => isAsked(data.classes[at]));
@@ -100,13 +104,13 @@ function placesAsked() {
 function drawFilters() {
   $('filters').replaceChildren(...Object.entries(LETTERS).filter(([letter]) => letter === 'R' || data.totals[letter]).map(([letter, [word, meaning]]) => {
     const total = data.totals[letter], [orders, classes] = total || [0, 0], state = want[letter] || 'any';
-    const told = total ? `${plural(orders, 'order')}, ${classesWord(classes)}` : 'not told';
+    const told = total ? `${plural(orders, 'order')}, ${classesWord(classes)}` : 'not known';
     return h('button', {
-      type: 'button', 'data-want': state, 'data-letter': letter, disabled: !orders, title: total ? meaning : 'not told: the spec has permutation lines',
+      type: 'button', 'data-want': state, 'data-letter': letter, disabled: !orders, title: total ? meaning : 'not known for permutation lines',
       'aria-label': `${word}: ${told}; ${{ any: 'with and without', with: 'only with', without: 'only without' }[state]}`,
       onclick: () => press(letter, { any: 'with', with: 'without' }[state]),
     }, h('span', { class: 'sign', 'aria-hidden': true }, { any: '', with: '+', without: '\u2212' }[state]),
-    span('word', word), span('share', total ? share(orders, data.orders) : '-'), span('counts', told));
+    span('word', word), span('share', total ? share(orders, data.asked) : '-'), span('counts', told));
   }));
 }
 
@@ -126,8 +130,8 @@ function rowOf(at, most) {
     h('td', { role: 'gridcell', class: 'number' }, String(at + 1)),
     h('td', { role: 'gridcell' }, h('div', { class: 'order' }, orderShown(one)),
       h('div', { class: 'tags' }, tags.length ? spaced(tags, '\u00a0\u00b7 ') : span('none', nothingOf())),
-      one.seen.map(lines => h('div', { class: 'seen' }, 'sees ', name(seenText(lines))))),
-    h('td', { role: 'gridcell', class: 'count' }, number(one.orders), ' ', span('share', share(one.orders, data.orders)),
+      one.query_rows.map(lines => h('div', { class: 'seen' }, 'query ', name(foundText(lines))))),
+    h('td', { role: 'gridcell', class: 'count' }, number(one.orders), ' ', span('share', share(one.orders, data.asked)),
       h('span', { class: 'bar', 'aria-hidden': true }, bar)));
 }
 
@@ -147,10 +151,10 @@ function drawClasses() {
   $('shown').textContent = places.length === data.classes.length ? all : `${number(places.length)} of ${all}, ${plural(orders, 'order')}`;
   $('rows').replaceChildren();
   drawRows(places.slice(0, drawnRows), most, Math.max(ROWS_AT_ONCE, places.indexOf(picked) + 1));
-  if (!places.length) $('rows').append(h('tr', { role: 'row' }, h('td', { role: 'gridcell', colspan: 3, class: 'muted' }, 'No order shows this.')));
+  if (!places.length) $('rows').append(h('tr', { role: 'row' }, h('td', { role: 'gridcell', colspan: 3, class: 'muted' }, 'No order has these letters.')));
   $('more').hidden = places.length <= drawnRows;
   $('more').textContent = `${number(Math.max(0, places.length - drawnRows))} more`;
-  for (const [id, key, sort, sign] of [['by-least', 'least', 'ascending', ' \u2191'], ['by-size', 'size', 'descending', ' \u2193']]) {
+  for (const [id, key, sort, sign] of [['by-first', 'first', 'ascending', ' \u2191'], ['by-size', 'size', 'descending', ' \u2193']]) {
     $(id).parentElement.setAttribute('aria-sort', by === key ? sort : 'none');
     $(id).lastElementChild.textContent = by === key ? sign : '';
   }
@@ -183,15 +187,16 @@ function onClassKey(event) {
   pick(Number(rows[Math.max(0, Math.min(rows.length - 1, to))].dataset.at), true);
 }
 
-// What is expected, of how many orders it is so, and the class of the first order of which it is not.
+// Each expectation, in how many orders it holds, and the class of the first order in which it fails; and levels.
 function drawExpected() {
-  $('expected').hidden = !data.expected.length;
-  $('expected').replaceChildren(...data.expected.map(one => {
-    const at = one.first === null ? -1 : data.classes.findIndex(of => of.least === one.first);
-    return h('p', null, one.first === null ? pill('good', 'as expected') : pill('fail', 'not as expected'), ' ', code(one.select), ' is ', code(one.values.join('|')),
-      ` in ${number(one.met)} of ${plural(data.asked, 'order')}`,
-      at < 0 ? '' : [`; first not so at rank ${one.first}, in `, h('button', { type: 'button', onclick: () => pick(at, true) }, `${classWord()} ${at + 1}`)]);
-  }));
+  const lines = data.level_lines;
+  $('expected').hidden = !data.expectations.length && !lines.length;
+  $('expected').replaceChildren(...data.expectations.map(one => {
+    const at = one.first === null ? -1 : data.classes.findIndex(of => of.first_rank === one.first);
+    return h('p', null, one.first === null ? pill('good', 'holds') : pill('fail', 'failed'), ' ', code(`${one.select} = ${one.values.join(', ')}`),
+      ` holds in ${number(one.holds_in)} of ${plural(data.asked, 'order')}`,
+      at < 0 ? '' : [`; first fails at rank ${one.first}, in `, h('button', { type: 'button', onclick: () => pick(at, true) }, `${classWord()} ${at + 1}`)]);
+  }), lines.length ? h('p', { class: 'muted' }, `Isolation levels have no effect (line${lines[1] ? 's' : ''} ${lines.join(', ')}).`) : '');
 }
 
 /* the moments of an order */
@@ -256,8 +261,8 @@ function drawOrder() {
   order = null;
   for (const id of ['heads', 'moments', 'ends', 'columns']) $(id).replaceChildren();
   $('absent').hidden = true;
-  $('what').textContent = one ? `${isByAnswers() ? 'Answer' : 'Class'} ${number(at + 1)} of ${number(data.classes.length)}` : 'No class';
-  $('where').textContent = one ? (one.orders === 1 ? `rank ${one.least}, its only order` : `rank ${one.least}, the least of ${plural(one.orders, 'order')}`) : '';
+  $('what').textContent = one ? `${isByResult() ? 'Result' : 'Class'} ${number(at + 1)} of ${number(data.classes.length)}` : 'No class';
+  $('where').textContent = one ? `rank ${one.first_rank}, ${one.orders === 1 ? 'its only order' : `the first of ${plural(one.orders, 'order')}`}` : '';
   inspect(null);
   if (one) source(at, found => { if (at === picked && one === data.classes[at]) drawFound(one, found); });
 }
@@ -266,11 +271,12 @@ function drawOrder() {
 const commandOf = words => words.map(word => /^[\w./+-]+$/.test(word) ? word : `'${word.replaceAll("'", "'\\''")}'`).join(' ');
 
 function drawFound(one, found) {
-  order = found;
+  // A short order has no steps behind its end; those that are not sent are of the rank.
+  order = found && one.order.length < found.order.length ? { ...found, moments: found.moments.filter(moment => moment.kind !== 'notsent') } : found;
   if (!order) {
-    $('absent').replaceChildren('Its moments are not in this page. Here they are: ', code(commandOf(['isofarm', 'show', data.name, String(one.least)])));
+    $('absent').replaceChildren('Its moments are not in this page. Here they are: ', code(commandOf(['isofarm', 'show', data.name, String(one.first_rank)])));
     $('absent').hidden = false;
-    $('ends').replaceChildren(...one.left.map(table => leftShown(table, table.rows)), ...openShown(one.open || []), ...seenShown(one));
+    $('ends').replaceChildren(...one.final_rows.map(table => leftShown(table, table.rows)), ...openShown(one.open || []), ...foundShown(one));
     return;
   }
   let most;
@@ -282,7 +288,7 @@ function drawFound(one, found) {
   for (const [one, of] of [['sessions', data.sessions.length], ['bars', most], ['longest', longest]]) $('timeline').style.setProperty(`--${one}`, of);
   $('moments').replaceChildren(...order.moments.map(drawMoment));
   const tables = order.left.map((table, place) => leftShown(table, order.first[place].rows));
-  $('ends').replaceChildren(...endsShown(), ...tables, ...openShown(order.open), ...seenShown(one));
+  $('ends').replaceChildren(...endsShown(), ...tables, ...openShown(order.open), ...foundShown(one));
   const cell = $('moments').querySelector('td');
   if (cell) cell.tabIndex = 0;
 }
@@ -346,14 +352,14 @@ function cellOf(moment, state, row) {
   return parts;
 }
 
-/* what is left */
+/* final rows */
 
 const endsShown = () => data.sessions.flatMap((_name, session) => {
   const last = states.at(-1), waits = last && last.waits[session];
-  return waits ? [h('p', null, pill('wait', 'still waits'), ' ', who(session), ' at the end: it ', wants(waits.it), '; ', spaced(last.edges[session].map(reason), ', '), '.')] : [];
+  return waits ? [h('p', null, pill('wait', 'waits for ever'), ' ', who(session), ': it ', wants(waits.it), '; ', spaced(last.edges[session].map(reason), ', '), '.')] : [];
 });
 const openShown = open => open.filter(([, how]) => how !== 'waits' || !order).map(([session, how]) => h('p', { class: 'open' }, who(session), `${OPEN[how]}.`));
-const seenShown = one => one.seen.map((lines, look) => h('p', { class: 'look' }, 'look ', code(data.looks[look]), ' sees ', code(seenText(lines))));
+const foundShown = one => one.query_rows.map((lines, at) => h('p', null, 'query ', code(data.queries[at]), ': ', code(foundText(lines))));
 
 const valuesOf = row => row.match(/'(?:[^']|'')*'|[^|]+/g) || [];
 const keyText = value => value.slice(1, -1).replaceAll("''", "'");
@@ -384,7 +390,7 @@ function leftShown(table, first) {
   const gone = before.filter((_row, at) => !keys.includes(old[at]));
   rows.push(...gone.map(row => h('tr', { class: 'gone' }, row.map(value => h('td', null, name(value))), h('td', { class: 'sign' }, 'gone'))));
   const shown = rows.slice(0, MOST_LEFT), more = rows.length - shown.length;
-  return h('table', null, h('caption', null, span('muted', 'left in '), name(table.table), span('muted', now.length ? '' : ': nothing')),
+  return h('table', null, h('caption', null, span('muted', 'final rows of '), name(table.table), span('muted', now.length ? '' : ': no row')),
     h('tbody', null, shown, more > 0 ? h('tr', null, h('td', { class: 'sign', colspan: 9 }, `and ${plural(more, 'row')} more`)) : ''));
 }
 
@@ -400,7 +406,7 @@ function reasonLong([other, why, mode], on, state) {
 
 function endOfWait(row, session) {
   const at = order.moments.findIndex((moment, place) => place > row && moment.session === session && moment.kind === 'resumed');
-  if (at < 0) return 'It still waits at the end of the order.';
+  if (at < 0) return 'It waits for ever.';
   return ['It goes on after ', stepOf(order.moments.slice(0, at).findLast(moment => moment.kind !== 'resumed').step), '.'];
 }
 
@@ -487,8 +493,8 @@ function drawFigures() {
   const is_part = data.asked !== data.orders;
   $('figures').replaceChildren(...[is_part ? [h('b', null, number(data.asked)), ' of '] : '', counted(plural(data.orders, 'order')), ' of ', counted(plural(data.steps.length, 'step')), ' in ',
     counted(plural(data.sessions.length, 'session')), is_part ? ' asked for, ' : ', ', counted(classesWord(data.classes.length))].flat(2));
-  $('alike').textContent = `The orders of ${isByAnswers() ? 'one answer show the same rows, counts and errors' : 'a class tell each session the same'}, and leave the same.`;
-  $('classes-title').textContent = isByAnswers() ? 'Answers of orders' : 'Classes of orders';
+  $('alike').textContent = `The orders of a ${isByResult() ? 'result have the same rows, counts and errors' : 'class return the same to each session'}, and the same final rows.`;
+  $('classes-title').textContent = isByResult() ? 'Results of orders' : 'Classes of orders';
 }
 
 // Shows classes. `from(at, tell)` tells the order of the class at a place, or null where there is none; `at` is the class to pick.
@@ -508,7 +514,7 @@ $('rows').addEventListener('keydown', onClassKey);
 $('moments').addEventListener('keydown', onCellKey);
 $('moments').addEventListener('focusin', event => inspect(cellAt(event)));
 $('moments').addEventListener('pointerover', event => { if (cellAt(event)) inspect(cellAt(event)); });
-$('by-least').addEventListener('click', () => { by = 'least'; drawClasses(); });
+$('by-first').addEventListener('click', () => { by = 'first'; drawClasses(); });
 $('by-size').addEventListener('click', () => { by = 'size'; drawClasses(); });
 $('more').addEventListener('click', () => { drawnRows += MOST_ROWS; drawClasses(); });
 $('theme').addEventListener('click', () => {

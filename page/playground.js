@@ -40,7 +40,7 @@
   }
 
   function askOrder(at, tellOrder) {
-    const rank = data.classes[at].least;
+    const rank = data.classes[at].first_rank;
     wanted = { rank, tellOrder };
     put({ rank });
   }

@@ -3,12 +3,12 @@
 
 let moduleBytes = null, core = null, last = Promise.resolve();
 
-// What a text comes to: its faults; or its classes; or why there are none. A core that is spent is not used again.
+// What a text comes to: its faults; or its classes, which tell of levels themselves; or why there are none. A core that is spent is not used again.
 function answerOf(spec, name) {
   const checked = core.check(spec, name);
   if (checked.fault) return { refused: checked };
   if (checked.faults.length) return { faults: checked.faults };
-  const notes = checked.text.split('\n').filter(line => line.startsWith('no effect: '));
+  const notes = checked.text.split('\n').filter(line => line.startsWith('no effect: ') && !line.startsWith('no effect: isolation level'));
   const classes = core.classes(spec, name);
   return typeof classes === 'string' ? { notes, classes } : { refused: classes };
 }

@@ -1,212 +1,141 @@
-//! How the classes of today differ from those that were accepted.
+//! How the record of today differs from the accepted one.
 
-use crate::classes::{ReadClass, ReadClasses, ReadText, read_classes};
-use crate::lines::{SessionFault, add_faults, each_once, left_of, without};
+use crate::record::{ReadResult, Record, read_record};
 use std::alloc::{AllocError, Global};
 
-/// How two texts of classes differ.
+/// How two records differ.
 #[derive(Drop)]
 pub enum Changes<'t> {
-    /// One of them is no text of classes.
+    /// One of them is no record of this version.
     Unread,
-    /// The accepted one is of an earlier version.
-    Earlier,
-    /// They tell of the same number of orders, and of the same classes.
-    None,
-    /// They tell of the same number of orders, in other classes.
-    Classes(ChangedClasses<'t>),
-    /// They tell of other orders: steps came or went. What they leave, and who can fail in them, is compared.
-    Others(ChangedEnds<'t>),
+    /// In lines of their heads that have no number.
+    Head,
+    /// In numbers, in results, or in the order in which results stand.
+    Results(ChangedResults<'t>),
 }
 
-/// Which classes differ, by their lines of the table, in the order of the texts.
-#[derive(Drop)]
-pub struct ChangedClasses<'t> {
-    /// Those that show what none of today does.
-    pub gone: Vec<&'t str>,
-    /// Those that show what none of the accepted ones does.
-    pub come: Vec<&'t str>,
-    /// Those that show the same, in another number of orders or with another first one.
-    pub changed: Vec<ChangedLine<'t>>,
-}
-
-/// The line of a class, as it was and as it is.
+/// A thing as it was and as it is.
 #[derive(Clone, Copy)]
-pub struct ChangedLine<'t> {
-    pub was: &'t str,
-    pub is: &'t str,
+pub struct Change<T> {
+    pub was: T,
+    pub is: T,
 }
 
-/// What other orders leave, and who can fail in them.
+/// What differs of the numbers and results of two records. Results are in the order of their record.
 #[derive(Drop)]
-pub struct ChangedEnds<'t> {
-    /// How many orders there were.
-    pub were: u64,
-    /// How many there are.
-    pub are: u64,
-    /// What is left by none any more, and what was left by none.
-    pub left_no_more: Vec<&'t str>,
-    pub left_now: Vec<&'t str>,
-    /// What no session is told any more, and what none was told.
-    pub faults_no_more: Vec<SessionFault<'t>>,
-    pub faults_now: Vec<SessionFault<'t>>,
+pub struct ChangedResults<'t> {
+    /// How many orders there are.
+    pub orders: Change<&'t str>,
+    /// How many of them have which letter.
+    pub letters: Change<&'t str>,
+    /// How many results the records leave out.
+    pub left_out: Change<&'t str>,
+    /// Those that today's record has not.
+    pub gone: Vec<ReadResult<'t>>,
+    /// Those that the accepted record has not.
+    pub come: Vec<ReadResult<'t>>,
+    /// Those of another number of orders, or with another first one.
+    pub changed: Vec<Change<ReadResult<'t>>>,
 }
 
-/// How the text of today differs from the accepted one.
+/// How the record of today differs from the accepted one.
 pub fn compare_texts<'t>(
     alloc: Global,
     accepted: &'t str,
     text: &'t str,
 ) -> Result<Changes<'t>, AllocError> {
-    let was = match read_classes(alloc, accepted)? {
-        ReadText::Unread => return Ok(Changes::Unread),
-        ReadText::Earlier => return Ok(Changes::Earlier),
-        ReadText::Classes(classes) => classes,
-    };
-    let ReadText::Classes(is) = read_classes(alloc, text)? else {
+    let Some(was) = read_record(alloc, accepted)? else {
         return Ok(Changes::Unread);
     };
-    if was.orders != is.orders {
-        return Ok(Changes::Others(changed_ends(alloc, &was, &is)?));
+    let Some(is) = read_record(alloc, text)? else {
+        return Ok(Changes::Unread);
+    };
+    if has_same_numbers(&was, &is) {
+        return Ok(Changes::Head);
     }
-    let classes = changed_classes(alloc, &was, &is)?;
-    if classes.gone.is_empty() && classes.come.is_empty() && classes.changed.is_empty() {
-        return Ok(Changes::None);
-    }
-    Ok(Changes::Classes(classes))
+    Ok(Changes::Results(changed_results(alloc, &was, &is)?))
 }
 
-fn changed_classes<'t>(
+/// Whether two records have the same orders, letters and results.
+fn has_same_numbers(was: &Record<'_>, is: &Record<'_>) -> bool {
+    was.orders == is.orders && was.letters == is.letters && was.behind == is.behind
+}
+
+fn changed_results<'t>(
     alloc: Global,
-    was: &ReadClasses<'t>,
-    is: &ReadClasses<'t>,
-) -> Result<ChangedClasses<'t>, AllocError> {
-    let old = by_shown(alloc, was)?;
-    let new = by_shown(alloc, is)?;
-    Ok(ChangedClasses {
-        gone: lines_without(alloc, was, &new)?,
-        come: lines_without(alloc, is, &old)?,
-        changed: changed_lines(alloc, is, &old)?,
+    was: &Record<'t>,
+    is: &Record<'t>,
+) -> Result<ChangedResults<'t>, AllocError> {
+    let old = by_content(alloc, &was.results)?;
+    let new = by_content(alloc, &is.results)?;
+    Ok(ChangedResults {
+        orders: Change {
+            was: was.orders,
+            is: is.orders,
+        },
+        letters: Change {
+            was: was.letters,
+            is: is.letters,
+        },
+        left_out: Change {
+            was: was.left_out,
+            is: is.left_out,
+        },
+        gone: without(alloc, &was.results, &new)?,
+        come: without(alloc, &is.results, &old)?,
+        changed: changed_numbers(alloc, &is.results, &old)?,
     })
 }
 
-/// The classes in the order of what they show.
-fn by_shown<'t>(
+/// The results in the order of their content.
+fn by_content<'t>(
     alloc: Global,
-    classes: &ReadClasses<'t>,
-) -> Result<Vec<ReadClass<'t>>, AllocError> {
+    results: &[ReadResult<'t>],
+) -> Result<Vec<ReadResult<'t>>, AllocError> {
     let mut sorted = Vec::new(alloc);
-    for class in &classes.classes {
-        sorted.push(*class)?;
+    for result in results {
+        sorted.push(*result)?;
     }
-    sorted.sort_unstable_by_key(|class: &ReadClass<'_>| class.shown);
+    sorted.sort_unstable_by_key(|one: &ReadResult<'_>| one.content);
     Ok(sorted)
 }
 
-/// The class that shows this, if one does.
-fn class_showing<'t>(sorted: &[ReadClass<'t>], shown: &str) -> Option<ReadClass<'t>> {
+/// The result with this content, if there is one.
+fn result_with<'t>(sorted: &[ReadResult<'t>], content: &str) -> Option<ReadResult<'t>> {
     let place = sorted
-        .binary_search_by(|class: &ReadClass<'_>| class.shown.cmp(shown))
+        .binary_search_by(|one: &ReadResult<'_>| one.content.cmp(content))
         .ok()?;
     sorted.get(place).copied()
 }
 
-/// The lines of the classes that show what none of the others does.
-fn lines_without<'t>(
+/// The results whose content none of the others has.
+fn without<'t>(
     alloc: Global,
-    classes: &ReadClasses<'t>,
-    others: &[ReadClass<'_>],
-) -> Result<Vec<&'t str>, AllocError> {
-    let mut lines = Vec::new(alloc);
-    for class in &classes.classes {
-        if class_showing(others, class.shown).is_none() {
-            lines.push(class.line)?;
+    results: &[ReadResult<'t>],
+    others: &[ReadResult<'_>],
+) -> Result<Vec<ReadResult<'t>>, AllocError> {
+    let mut left = Vec::new(alloc);
+    for result in results {
+        if result_with(others, result.content).is_none() {
+            left.push(*result)?;
         }
     }
-    Ok(lines)
+    Ok(left)
 }
 
-/// The lines of the classes that show what one of the others does, and have another number of orders or another first one.
-fn changed_lines<'t>(
+/// The results of which there is an old one with the same content, and another number of orders or another first one.
+fn changed_numbers<'t>(
     alloc: Global,
-    classes: &ReadClasses<'t>,
-    others: &[ReadClass<'t>],
-) -> Result<Vec<ChangedLine<'t>>, AllocError> {
+    results: &[ReadResult<'t>],
+    old: &[ReadResult<'t>],
+) -> Result<Vec<Change<ReadResult<'t>>>, AllocError> {
     let mut changed = Vec::new(alloc);
-    for class in &classes.classes {
-        if let Some(other) = class_showing(others, class.shown) {
-            if without_number(other.line) != without_number(class.line) {
-                changed.push(ChangedLine {
-                    was: other.line,
-                    is: class.line,
-                })?;
+    for is in results {
+        if let Some(was) = result_with(old, is.content) {
+            if was.count != is.count || was.first != is.first {
+                changed.push(Change { was, is: *is })?;
             }
         }
     }
     Ok(changed)
-}
-
-/// The line of a class without its number, which it begins with.
-fn without_number(line: &str) -> &str {
-    match line.trim_start().split_once(" ") {
-        Some((_number, behind)) => behind.trim_start(),
-        None => line,
-    }
-}
-
-fn changed_ends<'t>(
-    alloc: Global,
-    was: &ReadClasses<'t>,
-    is: &ReadClasses<'t>,
-) -> Result<ChangedEnds<'t>, AllocError> {
-    let old_left = lefts(alloc, was)?;
-    let new_left = lefts(alloc, is)?;
-    let old_faults = faults(alloc, was)?;
-    let new_faults = faults(alloc, is)?;
-    Ok(ChangedEnds {
-        were: was.orders,
-        are: is.orders,
-        left_no_more: without(alloc, &old_left, &new_left)?,
-        left_now: without(alloc, &new_left, &old_left)?,
-        faults_no_more: faults_without(alloc, &old_faults, &new_faults)?,
-        faults_now: faults_without(alloc, &new_faults, &old_faults)?,
-    })
-}
-
-/// What classes leave, each once.
-fn lefts<'t>(alloc: Global, classes: &ReadClasses<'t>) -> Result<Vec<&'t str>, AllocError> {
-    let mut all = Vec::new(alloc);
-    for class in &classes.classes {
-        all.push(left_of(class.shown))?;
-    }
-    each_once(alloc, &all)
-}
-
-/// Which faults sessions are told, each once.
-fn faults<'t>(
-    alloc: Global,
-    classes: &ReadClasses<'t>,
-) -> Result<Vec<SessionFault<'t>>, AllocError> {
-    let mut all = Vec::new(alloc);
-    for class in &classes.classes {
-        add_faults(class.shown, &mut all)?;
-    }
-    all.sort_unstable();
-    all.dedup();
-    Ok(all)
-}
-
-/// Those of the faults that are none of the others.
-fn faults_without<'t>(
-    alloc: Global,
-    faults: &[SessionFault<'t>],
-    others: &[SessionFault<'t>],
-) -> Result<Vec<SessionFault<'t>>, AllocError> {
-    let mut left = Vec::new(alloc);
-    for fault in faults {
-        if others.binary_search(fault).is_err() {
-            left.push(*fault)?;
-        }
-    }
-    Ok(left)
 }

@@ -1,4 +1,4 @@
-//! The names of spec files and of their accepted texts.
+//! The names of spec files and of their accepted records.
 
 ghost use Rattle.std.specs.Prelude.{IfOk, string_bytes};
 ghost use Rattle.accepted_classes.specs.Names.{IsAcceptedPath, IsFileName, IsStem};
@@ -8,10 +8,10 @@ use std::alloc::{AllocError, Global};
 /// What the name of a spec file ends in.
 const SPEC: &str = ".spec";
 
-/// What the name of an accepted text ends in.
+/// What the name of an accepted record ends in.
 const ACCEPTED: &str = ".accepted";
 
-/// The path of the accepted text of the spec file at a path: beside it, with `.accepted` in the place of `.spec`, or behind a name that does not
+/// The path of the accepted record of the spec file at a path: beside it, with `.accepted` in the place of `.spec`, or behind a name that does not
 /// end so.
 pub fn accepted_path(alloc: Global, path: &str) -> Result<String, AllocError>
     ensures { IfOk result (λ accepted. IsAcceptedPath path.now (string_bytes accepted)) }

@@ -13,7 +13,7 @@ use Rattle.asked_classes.specs.Looks.{AreLooks, AreNoLooks, AreExpectations, Are
 -- which orders, what is looked at, and what is expected
 pub record IsAsked (file : SpecFile) (tables : List Table) (wanted : WantedClasses) (asked : AskedClasses) : Type 0 where
   pub filters : AreMeant file wanted.filters.items asked.filters.items
-  pub looks : AreLooks tables wanted.looks.items asked.looks.items
+  pub looks : AreLooks tables wanted.queries.items asked.looks.items
   pub expectations : AreExpectations tables wanted.expectations.items asked.expectations.items
 
 -- all filters are meant
@@ -22,11 +22,11 @@ HasFilters file wanted = (filters : List Filter) × AreMeant file wanted.filters
 
 -- and all looks are
 abbrev pub HasLooks : SpecFile → List Table → WantedClasses → Type 0
-HasLooks file tables wanted = HasFilters file wanted × ((looks : List AskedLook) × AreLooks tables wanted.looks.items looks)
+HasLooks file tables wanted = HasFilters file wanted × ((looks : List AskedLook) × AreLooks tables wanted.queries.items looks)
 
 -- why nothing is asked: the first filter that is none of the spec; or the first look that is none; or the first expectation
 abbrev pub IsRefused : SpecFile → List Table → WantedClasses → AskedFault → Type 0
 IsRefused file tables wanted fault =
     AreUnmeant file wanted.filters.items fault
-    ⊎ ((HasFilters file wanted × AreNoLooks tables wanted.looks.items fault)
+    ⊎ ((HasFilters file wanted × AreNoLooks tables wanted.queries.items fault)
     ⊎ (HasLooks file tables wanted × AreNoExpectations tables wanted.expectations.items fault))

@@ -23,9 +23,9 @@ IsMeantTest file wanted.Waits the.Waits = Unit {0}
 IsMeantTest file wanted.Deadlock (the.Deadlock session) = session ≡ None
 IsMeantTest file (wanted.DeadlockOf name) (the.Deadlock session) = (k : ℕ) × IsSessionNamed file name.now k × (session ≡ Some k)
 IsMeantTest file wanted.Error the.Error = Unit {0}
-IsMeantTest file wanted.Unsent the.Unsent = Unit {0}
+IsMeantTest file wanted.NotSent the.Unsent = Unit {0}
 IsMeantTest file wanted.Stuck the.Stuck = Unit {0}
-IsMeantTest file wanted.NotSerial the.NotSerial = file.run.lines ≡ []
+IsMeantTest file wanted.Anomaly the.NotSerial = file.run.lines ≡ []
 IsMeantTest file asked test = ⊥
 
 pub record IsMeant (file : SpecFile) (asked : WantedFilter) (filter : Filter) : Type 0 where
@@ -35,7 +35,7 @@ pub record IsMeant (file : SpecFile) (asked : WantedFilter) (filter : Filter) : 
 -- why nothing is tested: no session has the name, or the file has permutation lines
 abbrev pub IsUnmeantTest : SpecFile → WantedTest → AskedFault → Type 0
 IsUnmeantTest file (wanted.DeadlockOf name) (UnknownSession told) = (told ≡ name) × ((k : ℕ) → IsSessionNamed file name.now k → ⊥)
-IsUnmeantTest file wanted.NotSerial NotTold = file.run.lines ≢ []
+IsUnmeantTest file wanted.Anomaly NotTold = file.run.lines ≢ []
 IsUnmeantTest file asked fault = ⊥
 
 abbrev pub IsUnmeant : SpecFile → WantedFilter → AskedFault → Type 0

@@ -38,7 +38,7 @@ pub fn asked_of<'a>(
         Ok(filters) => filters,
         Err(fault) => return Err(fault),
     };
-    let looks = match looks_of(alloc, tables, wanted.looks.as_slice()) {
+    let looks = match looks_of(alloc, tables, wanted.queries.as_slice()) {
         Ok(looks) => looks,
         Err(fault) => return Err(fault),
     };

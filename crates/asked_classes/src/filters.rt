@@ -56,9 +56,9 @@ fn test_of<'a>(spec: &Spec, wanted: WantedTest<'a>) -> Result<Test, AskedFault<'
             None => Err(AskedFault::UnknownSession(name)),
         },
         WantedTest::Error => Ok(Test::Error),
-        WantedTest::Unsent => Ok(Test::Unsent),
+        WantedTest::NotSent => Ok(Test::Unsent),
         WantedTest::Stuck => Ok(Test::Stuck),
-        WantedTest::NotSerial => match spec.shape() {
+        WantedTest::Anomaly => match spec.shape() {
             Some(_) => Ok(Test::NotSerial),
             None => Err(AskedFault::NotTold),
         },

@@ -4,9 +4,17 @@ use bound_statements::Bound;
 use std::marker::Model;
 
 /// The statements of a setup or a step in their order, seen by contracts as their list.
-#[derive(Drop)]
 pub struct Block {
     statements: Vec<Bound>,
+}
+
+// Written out and not derived, so that who owns one calls this and does not let its parts go one by one.
+impl Drop for Block {
+    fn drop(self) {
+        let Block {
+            statements: _statements,
+        } = self;
+    }
 }
 
 impl Model for Block {
@@ -38,10 +46,18 @@ impl Block {
 }
 
 /// A step of the file: the number of the session that sends it, and what it sends.
-#[derive(Drop)]
 pub struct Step {
     session: u8,
     block: Block,
+}
+
+impl Drop for Step {
+    fn drop(self) {
+        let Step {
+            session: _,
+            block: _block,
+        } = self;
+    }
 }
 
 impl Model for Step {

@@ -1,5 +1,5 @@
 -- What is written of the classes of books.
-use Rattle.std.proofs.Common.{◌≡◌, refl, ℕ, List, Option, Result, Ok, Err, length}
+use Rattle.std.proofs.Common.{refl, ℕ, List, Option, Result, Ok, Err, length}
 use Rattle.std.specs.Bool.{⊤}
 use Rattle.transcripts.specs.declared.counted.Counted.{Counted}
 use Rattle.fact_books.specs.Books.{Contents}

@@ -10,12 +10,14 @@ use Rattle.bound_specs.proofs.FileLemmas.{bind}
 use Rattle.bound_specs.specs.Spec.{SpecFile}
 use Rattle.bound_statements.specs.declared.statement.Bound.{Bound}
 use Rattle.lock_modes.specs.declared.value.Value.{Value}
-use Rattle.machine_model.specs.Start.{start}
+use Rattle.machine_model.specs.Start.{Started, start}
+use Rattle.machine_model.specs.World.{World}
 use Rattle.session_machine.specs.Running.{IsNotRunBy}
 use Rattle.session_machine.specs.declared.error.RunError.{RunError}
 use Rattle.transcripts.specs.declared.counted.Counted.{Counted}
 use Rattle.order_classes.specs.Looks.{one_row}
 use Rattle.order_classes.specs.declared.rows.ClassRow.{ClassRow}
+use Rattle.spec_texts.specs.Levels.{AreLevelLines}
 use Rattle.spec_texts.specs.Texts.{Declares}
 use Rattle.class_looks.specs.Seeing.{told_by}
 use Rattle.class_rows.specs.Pages.{IsClassed}
@@ -29,13 +31,9 @@ use Rattle.book_commands.specs.declared.finding.Finding.TheVariants.{Good, Bad}
 use Rattle.class_commands.specs.declared.asking.AskedSpec.{AskedSpec}
 use Rattle.class_commands.specs.declared.classing.ClassesFault.{ClassesFault}
 use Rattle.class_commands.specs.declared.classing.ClassesFault.TheVariants.{Spec, Asked, Run, TooMany, NoMemory, Write}
-use Rattle.class_commands.specs.Classing.{IsClassesRun, IsFinding, IsMet, IsNotTold, IsTellingOf, expectation_over, grouping, page_of, seen_of}
+use Rattle.class_commands.specs.Classing.{HasManyStates, IsClassesRun, IsFinding, IsMet, IsNotTold, IsTellingOf, expectation_over, grouping, kind_by, page_of, seen_of}
 use Rattle.class_commands.specs.Opened.{IsWrittenAs}
-use Rattle.class_commands.specs.Parts.{IsAskedSpec, IsNotAskedSpec, IsNotCounted, IsNotFound, IsTextOf, Writes, finding_by}
-use Rattle.spec_schedules.specs.declared.kind.Kind.TheVariants.{Permutations}
-use Rattle.schedule_counts.specs.declared.counting.StatesError.{StatesError}
-use Rattle.schedule_counts.specs.declared.counting.StatesError.TheVariants as states
-use Rattle.session_steps.specs.declared.error.StartError.TheVariants as start_error
+use Rattle.class_commands.specs.Parts.{IsAskedSpec, IsNotAskedSpec, IsNotFound, IsTextOf, Writes, finding_by}
 
 -- a spec file has the text that it is of
 pub text-is : (text : List ℕ) (file : SpecFile) → IsFileOf text file → file.text ≡ text
@@ -47,7 +45,8 @@ text-is text file is =
     cc (c.1.1)
 
 module _ {W : Type 0} (contents : W → Option (List ℕ)) (old new : Counted W) (bytes path : List ℕ) (wanted : WantedClasses) (a : AskedSpec)
-    (is : IsAskedSpec bytes wanted a) (classed : Classed) (are : IsClassed Permutations a.tables.items a.spec.run a.asked.filters.items (grouping wanted.answers) classed) where
+    (is : IsAskedSpec bytes wanted a) (classed : Classed) (are : IsClassed (kind_by wanted.all_orders) a.tables.items a.spec.run a.asked.filters.items (grouping wanted.by_result) classed)
+    (world : World) (starts : start a.spec.run ≡ Started world) where
   abbrev telling : (text : List ℕ) → IsTextOf path a.spec a.tables.items wanted a.asked classed text → IsTellingOf bytes path wanted text
   telling text is-text =
       let same = text-is bytes a.spec is.is_file in record {
@@ -57,9 +56,13 @@ module _ {W : Type 0} (contents : W → Option (List ℕ)) (old new : Counted W)
         declares = subst (λ t. Declares t a.spec a.tables.items) same is.declares;
         asked = a.asked;
         is_asked = is.is_asked;
+        world = world;
+        starts = starts;
         classed = classed;
         are = are;
-        written = subst (λ t. IsWrittenAs wanted.form t a.spec (page_of path a.spec a.tables.items wanted a.asked classed) text) same is-text;
+        levels = is-text.0;
+        are_levels = subst (λ t. AreLevelLines t a.spec is-text.0) same is-text.1;
+        written = subst (λ t. IsWrittenAs wanted.form t a.spec (page_of path a.spec a.tables.items is-text.0 wanted a.asked classed) text) same is-text.2;
       }
 
   -- what is written of them is the run's
@@ -90,12 +93,18 @@ module _ {W : Type 0} (contents : W → Option (List ℕ)) (old : Counted W) (by
       let declares = subst (λ t. Declares t a.spec a.tables.items) (text-is bytes a.spec is.is_file) is.declares in
       (refl, (a.spec, is.is_file, (a.tables.items, declares, ((a.asked, is.is_asked), is-not))))
 
+  -- nor where there are too many states
+  not-explored : (a : AskedSpec) → IsAskedSpec bytes wanted a → (noted : ℕ) → HasManyStates a.spec → IsNotTold contents old old bytes path wanted (TooMany noted)
+  not-explored a is noted many =
+      let declares = subst (λ t. Declares t a.spec a.tables.items) (text-is bytes a.spec is.is_file) is.declares in
+      (refl, (a.spec, is.is_file, (a.tables.items, declares, ((a.asked, is.is_asked), many))))
+
   -- nor where nothing is found of them
   pub not-found : (a : AskedSpec) → IsAskedSpec bytes wanted a → (fault : ClassesFault) → IsNotFound a.spec fault → IsNotTold contents old old bytes path wanted fault
   not-found a is (Spec fault) never = absurd never
   not-found a is (Asked fault) never = absurd never
   not-found a is (Run error) is-not = not-run a is error is-not
-  not-found a is (TooMany noted) any = refl
+  not-found a is (TooMany noted) many = not-explored a is noted many
   not-found a is NoMemory any = refl
   not-found a is (Write fault) never = absurd never
 

@@ -54,7 +54,7 @@ module _ {bytes path : List ℕ} {file : SpecFile} {rank : ℕ} {text : List ℕ
 pub classes-line : (page : Page) (step_sessions : List ℕ) (statements : List (List ℕ)) → (front : List ℕ) × (classes.classes_json page step_sessions statements ≡ line front)
 classes-line page step_sessions statements =
     let front : List ℕ =
-    classes.counts_json page ++ classes.numbers_json page step_sessions statements ++ classes.grouped_json page ++ classes_part page in
+    classes.counts_json page ++ classes.numbers_json page step_sessions statements ++ classes.levels_json page ++ classes.grouped_json page ++ classes_part page in
     (front ++ codes "}", ends front)
 
 -- ---- orders

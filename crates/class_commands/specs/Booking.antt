@@ -13,6 +13,7 @@ use Rattle.class_stretches.specs.declared.rank_run.RankRun.{RankRun}
 use Rattle.class_texts.specs.Pages.{Page}
 use Rattle.class_texts.specs.declared.kind.ClassKind.TheVariants.{Outcomes}
 use Rattle.wanted_classes.specs.declared.wanted.WantedOutcomes.{WantedOutcomes}
+use Rattle.spec_texts.specs.Levels.{AreLevelLines}
 use Rattle.class_commands.specs.Written.{AreRanks, IsWritten}
 use Rattle.class_commands.specs.declared.booking.BookClassesFault.{BookClassesFault}
 use Rattle.class_commands.specs.declared.booking.BookClassesFault.TheVariants.{Join, Clash, NoMemory, Write}
@@ -21,16 +22,19 @@ use Rattle.class_commands.specs.declared.booking.BookClassesFault.TheVariants.{J
 abbrev pub books_name : List (List ℕ) → List ℕ
 books_name paths = cond (length paths == 1) (get_or paths 0 []) (decimal (length paths) ++ codes " books")
 
-abbrev pub outcomes_page : List (List ℕ) → SpecFile → BookClasses → WantedOutcomes → List (List RankRun) → Page
-outcomes_page paths file x wanted runs = record {
+abbrev pub outcomes_page : List (List ℕ) → SpecFile → List ℕ → BookClasses → WantedOutcomes → List (List RankRun) → Page
+outcomes_page paths file levels x wanted runs = record {
   path = books_name paths;
   orders = ranks file.run;
+  all_orders = false;
   sessions = file.session_names;
   steps = file.step_names;
   tables = [];
   by = Outcomes;
   is_filtered = is_some x.missing;
+  filters = [];
   missing = x.missing;
+  level_lines = levels;
   expectations = [];
   totals = x.totals;
   rows = x.rows.items;
@@ -46,7 +50,7 @@ outcomes_page paths file x wanted runs = record {
 abbrev pub IsBookText : List (List ℕ) → SpecFile → BookClasses → WantedOutcomes → List ℕ → Type 0
 IsBookText paths file x wanted text =
     (runs : List (List RankRun)) × AreRanks wanted.ranks x.told.stretches runs
-    × IsWritten wanted.json file.text file (outcomes_page paths file x wanted runs) text
+    × ((levels : List ℕ) × AreLevelLines file.text file levels × IsWritten wanted.json file.text file (outcomes_page paths file levels x wanted runs) text)
 
 -- the text tells the classes of what the books in the files tell, which are of one spec
 pub record IsTellingOfBooks (files : Files) (paths : List (List ℕ)) (wanted : WantedOutcomes) (text : List ℕ) : Type 0 where

@@ -1,22 +1,25 @@
 -- What is written of the classes of a spec, from the bytes of its file.
-use Rattle.std.specs.Prelude.{◌≡◌, ◌↔◌, ℕ, Bool, true, false, List, [], ◌∷◌, map, All, Option, None, Result, Ok, Err}
+use Rattle.std.specs.Prelude.{◌≡◌, ◌↔◌, ℕ, Bool, true, false, cond, List, [], ◌∷◌, ◌++◌, map, flat_map, codes, All, Option, None, Result, Ok, Err}
 use Rattle.binding_model.specs.declared.tables.Table.{Table}
-use Rattle.bound_specs.specs.Spec.{SpecFile, ranks}
+use Rattle.bound_specs.specs.Spec.{SpecFile}
 use Rattle.bound_specs.specs.Binding.{IsFileOf}
 use Rattle.bound_statements.specs.declared.statement.Bound.{Bound}
-use Rattle.machine_model.specs.Start.{start}
+use Rattle.machine_model.specs.Start.{Started, start}
+use Rattle.machine_model.specs.World.{World}
 use Rattle.session_machine.specs.Running.{IsNotRunBy}
 use Rattle.session_machine.specs.declared.error.RunError.{RunError}
 use Rattle.transcripts.specs.Counted.{Wrote, Stopped}
 use Rattle.transcripts.specs.declared.counted.Counted.{Counted}
 use Rattle.events.specs.declared.event.Event.{Event}
 use Rattle.spec_binding.specs.SpecFiles.{IsNoSpec}
+use Rattle.spec_texts.specs.Levels.{AreLevelLines}
 use Rattle.spec_texts.specs.Texts.{Declares}
 use Rattle.order_classes.specs.Looks.{one_row}
 use Rattle.order_classes.specs.declared.rows.ClassRow.{ClassRow}
 use Rattle.order_classes.specs.declared.rows.Grouping.{Grouping}
 use Rattle.order_classes.specs.declared.rows.Grouping.TheVariants as by
-use Rattle.spec_schedules.specs.declared.kind.Kind.TheVariants.{Permutations}
+use Rattle.spec_schedules.specs.declared.kind.Kind.{Kind}
+use Rattle.spec_schedules.specs.declared.kind.Kind.TheVariants.{Permutations, Schedules}
 use Rattle.class_rows.specs.Pages.{IsClassed}
 use Rattle.class_rows.specs.declared.rows.Classed.{Classed}
 use Rattle.class_looks.specs.Seeing.{told_by, sees}
@@ -25,6 +28,9 @@ use Rattle.class_texts.specs.Expected.{Expectation}
 use Rattle.class_texts.specs.Letters.{kind_of}
 use Rattle.class_texts.specs.Pages.{Page}
 use Rattle.wanted_classes.specs.declared.wanted.WantedClasses.{WantedClasses}
+use Rattle.wanted_classes.specs.declared.wanted.WantedFilter.{WantedFilter}
+use Rattle.wanted_classes.specs.declared.wanted.WantedTest.{WantedTest}
+use Rattle.wanted_classes.specs.declared.wanted.WantedTest.TheVariants as wanted
 use Rattle.asked_classes.specs.declared.asking.AskedClasses.{AskedClasses}
 use Rattle.asked_classes.specs.declared.looks.AskedLook.{AskedLook}
 use Rattle.asked_classes.specs.declared.expectations.AskedExpectation.{AskedExpectation}
@@ -41,6 +47,31 @@ abbrev pub grouping : Bool → Grouping
 grouping true = by.Answers
 grouping false = by.Shows
 
+-- all permutations, or those orders alone that clients can send
+abbrev pub kind_by : Bool → Kind
+kind_by true = Permutations
+kind_by false = Schedules
+
+-- the word of a filter
+abbrev pub test_word : WantedTest → List ℕ
+test_word wanted.Waits = codes "waits"
+test_word wanted.Deadlock = codes "deadlock"
+test_word (wanted.DeadlockOf name) = codes "deadlock=" ++ name.now
+test_word wanted.Error = codes "error"
+test_word wanted.NotSent = codes "not-sent"
+test_word wanted.Stuck = codes "stuck"
+test_word wanted.Anomaly = codes "anomaly"
+
+abbrev pub filter_word : WantedFilter → List ℕ
+filter_word f = cond f.wanted (codes "--") (codes "--no-") ++ test_word f.test
+
+abbrev pub behind_blank : WantedFilter → List ℕ
+behind_blank f = 32 ∷ filter_word f
+
+abbrev pub filters_text : List WantedFilter → List ℕ
+filters_text [] = []
+filters_text (f ∷ fs) = filter_word f ++ flat_map behind_blank fs
+
 -- what a SELECT sees of the rows that a class leaves
 abbrev pub seen_of : Bound → ClassRow → List Event
 seen_of st row = told_by (sees st row.shows.left)
@@ -55,18 +86,21 @@ abbrev pub has_some : {X : Type 0} → List X → Bool
 has_some [] = false
 has_some (x ∷ xs) = true
 
--- with the path that the spec is told to lie at
-abbrev pub page_of : List ℕ → SpecFile → List Table → WantedClasses → AskedClasses → Classed → Page
-page_of path file tables wanted asked x =
+-- with the path that the spec is told to lie at, and the lines of levels that have no effect
+abbrev pub page_of : List ℕ → SpecFile → List Table → List ℕ → WantedClasses → AskedClasses → Classed → Page
+page_of path file tables levels wanted asked x =
     record {
       path = path;
-      orders = ranks file.run;
+      orders = x.orders;
+      all_orders = wanted.all_orders;
       sessions = file.session_names;
       steps = file.step_names;
       tables = tables;
-      by = kind_of (grouping wanted.answers);
+      by = kind_of (grouping wanted.by_result);
       is_filtered = has_some asked.filters.items;
+      filters = filters_text wanted.filters.items;
       missing = None;
+      level_lines = levels;
       expectations = map (expectation_over x.rows.items) asked.expectations.items;
       totals = x.totals;
       rows = x.rows.items;
@@ -74,7 +108,7 @@ page_of path file tables wanted asked x =
       with_ranks = false;
       ranks = [];
       with_outcomes = wanted.outcomes;
-      with_left = wanted.left;
+      with_left = wanted.final_rows;
       looks = map (look_over x.rows.items) asked.looks.items;
     }
 
@@ -98,9 +132,13 @@ pub record IsTellingOf (bytes path : List ℕ) (wanted : WantedClasses) (text : 
   pub declares : Declares bytes file tables
   pub asked : AskedClasses
   pub is_asked : IsAsked file tables wanted asked
+  pub world : World
+  pub starts : start file.run ≡ Started world
   pub classed : Classed
-  pub are : IsClassed Permutations tables file.run asked.filters.items (grouping wanted.answers) classed
-  pub written : IsWrittenAs wanted.form bytes file (page_of path file tables wanted asked classed) text
+  pub are : IsClassed (kind_by wanted.all_orders) tables file.run asked.filters.items (grouping wanted.by_result) classed
+  pub levels : List ℕ
+  pub are_levels : AreLevelLines bytes file levels
+  pub written : IsWrittenAs wanted.form bytes file (page_of path file tables levels wanted asked classed) text
 
 -- what is found of the orders that it tells of
 abbrev pub IsFoundIn : {bytes path : List ℕ} {wanted : WantedClasses} {text : List ℕ} → IsTellingOf bytes path wanted text → Finding → Type 0
@@ -113,13 +151,20 @@ IsNotAsked bytes wanted Why = (file : SpecFile) × IsFileOf bytes file × ((tabl
 abbrev pub IsNotRun : SpecFile → List Table → WantedClasses → RunError → Type 0
 IsNotRun file tables wanted error = ((asked : AskedClasses) × IsAsked file tables wanted asked) × IsNotRunBy error (start file.run)
 
+-- of a spec without permutation lines, which starts, there may be too many states
+abbrev pub HasManyStates : SpecFile → Type 0
+HasManyStates file = (file.run.lines ≡ []) × ((w : World) × (start file.run ≡ Started w))
+
+abbrev pub IsNotExplored : SpecFile → List Table → WantedClasses → Type 0
+IsNotExplored file tables wanted = ((asked : AskedClasses) × IsAsked file tables wanted asked) × HasManyStates file
+
 -- why classes are not written, and what that leaves in the writer: the bytes are no spec file; nothing is asked of it; the orders are not run; there is no
 -- room for all states; memory ran out; or a write fails, which leaves a front of such a text
 abbrev pub IsNotTold : {W : Type 0} → (W → Option (List ℕ)) → Counted W → Counted W → List ℕ → List ℕ → WantedClasses → ClassesFault → Type 0
 IsNotTold contents old new bytes path wanted (Spec fault) = (new ≡ old) × IsNoSpec bytes fault
 IsNotTold contents old new bytes path wanted (Asked fault) = (new ≡ old) × IsNotAsked bytes wanted (λ file tables. IsRefused file tables wanted fault)
 IsNotTold contents old new bytes path wanted (Run error) = (new ≡ old) × IsNotAsked bytes wanted (λ file tables. IsNotRun file tables wanted error)
-IsNotTold contents old new bytes path wanted (TooMany noted) = new ≡ old
+IsNotTold contents old new bytes path wanted (TooMany noted) = (new ≡ old) × IsNotAsked bytes wanted (λ file tables. IsNotExplored file tables wanted)
 IsNotTold contents old new bytes path wanted NoMemory = new ≡ old
 IsNotTold contents old new bytes path wanted (Write fault) = (text : List ℕ) × IsTellingOf bytes path wanted text × Stopped contents old new text
 

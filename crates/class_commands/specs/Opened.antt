@@ -6,6 +6,7 @@ use Rattle.order_classes.specs.declared.rows.ClassRow.{ClassRow}
 use Rattle.spec_commands.specs.Showing.{IsShowing}
 use Rattle.spec_commands.specs.declared.showing.ShowForm.TheVariants.{Json}
 use Rattle.class_texts.specs.Pages.{Page}
+use Rattle.class_texts.specs.Records.{record_bytes}
 use Rattle.page_texts.specs.Parts.{text_of}
 use Rattle.page_texts.specs.declared.part.Part.TheVariants.{Front, Style, Middle, Between, BackBegin, Script, BackEnd}
 use Rattle.wanted_classes.specs.declared.wanted.WantedForm.{WantedForm}
@@ -47,9 +48,11 @@ abbrev pub IsWrittenAs : WantedForm → List ℕ → SpecFile → Page → List 
 IsWrittenAs wanted.Text bytes file page text = IsWritten false bytes file page text
 IsWrittenAs wanted.Json bytes file page text = IsWritten true bytes file page text
 IsWrittenAs wanted.Html bytes file page text = IsPageOf bytes file page text
+IsWrittenAs wanted.Record bytes file page text = text ≡ record_bytes page
 
 -- what the form wants of orders: a page that is opened has those of the first classes, and the others none
 abbrev pub HasOrders : WantedForm → List ℕ → List ℕ → SpecFile → List ClassRow → List ℕ → Type 0
 HasOrders wanted.Text bytes path file rows orders = Unit {0}
 HasOrders wanted.Json bytes path file rows orders = Unit {0}
+HasOrders wanted.Record bytes path file rows orders = Unit {0}
 HasOrders wanted.Html bytes path file rows orders = AreOrdersOf bytes path file (take MAX_SHOWN rows) orders

@@ -10,6 +10,7 @@ use Rattle.session_steps.specs.Refused.{IsRefusedBy}
 use Rattle.schedule_counts.specs.declared.counting.StatesError.{StatesError}
 use Rattle.schedule_counts.specs.declared.counting.StatesError.TheVariants as states
 use Rattle.spec_binding.specs.SpecFiles.{IsNoSpec}
+use Rattle.spec_texts.specs.Levels.{AreLevelLines}
 use Rattle.spec_texts.specs.Texts.{Declares}
 use Rattle.transcripts.specs.Counted.{Wrote, Stopped}
 use Rattle.transcripts.specs.declared.counted.Counted.{Counted}
@@ -24,7 +25,7 @@ use Rattle.class_commands.specs.declared.asking.AskedSpec.{AskedSpec}
 use Rattle.class_commands.specs.declared.classing.ClassesFault.{ClassesFault}
 use Rattle.class_commands.specs.declared.classing.ClassesFault.TheVariants.{Spec, Asked, Run, TooMany, NoMemory, Write}
 use Rattle.class_commands.specs.Opened.{IsWrittenAs}
-use Rattle.class_commands.specs.Classing.{IsNotAsked, page_of}
+use Rattle.class_commands.specs.Classing.{HasManyStates, IsNotAsked, page_of}
 
 -- the spec file that the bytes are, with the tables that its main setups declare, and what is asked of it
 pub record IsAskedSpec (bytes : List ℕ) (wanted : WantedClasses) (a : AskedSpec) : Type 0 where
@@ -42,19 +43,20 @@ IsNotAskedSpec bytes wanted fault = ⊥
 -- why the orders of a spec are not counted: it does not start, or there is no room or memory
 abbrev pub IsNotCounted : SpecFile → StatesError → Type 0
 IsNotCounted file (states.Start error) = IsRefusedBy error (start file.run)
-IsNotCounted file (states.TooMany noted) = Unit {0}
+IsNotCounted file (states.TooMany noted) = HasManyStates file
 IsNotCounted file states.Memory = Unit {0}
 
 -- why nothing is found of the orders of a spec: it does not start, there is no room for all states, or memory ran out
 abbrev pub IsNotFound : SpecFile → ClassesFault → Type 0
 IsNotFound file (Run error) = IsNotRunBy error (start file.run)
-IsNotFound file (TooMany noted) = Unit {0}
+IsNotFound file (TooMany noted) = HasManyStates file
 IsNotFound file NoMemory = Unit {0}
 IsNotFound file fault = ⊥
 
 -- the text is the page of what is found
 abbrev pub IsTextOf : List ℕ → SpecFile → List Table → WantedClasses → AskedClasses → Classed → List ℕ → Type 0
-IsTextOf path file tables wanted asked x text = IsWrittenAs wanted.form file.text file (page_of path file tables wanted asked x) text
+IsTextOf path file tables wanted asked x text =
+    (levels : List ℕ) × AreLevelLines file.text file levels × IsWrittenAs wanted.form file.text file (page_of path file tables levels wanted asked x) text
 
 -- such a text is written and such a finding told; or a front of it is written, or nothing for want of memory
 abbrev pub Writes : {W : Type 0} → (W → Option (List ℕ)) → Counted W → Counted W → (List ℕ → Type 0) → (Finding → Type 0) → Result Finding ClassesFault → Type 0

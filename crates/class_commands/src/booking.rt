@@ -15,6 +15,7 @@ use bound_specs::Spec;
 use class_texts::{ClassKind, Page};
 use fact_books::Book;
 use itoa::Buffer;
+use spec_texts::level_lines;
 use std::alloc::{AllocError, Global};
 use std::io::Write;
 use transcripts::{Counted, WriteFault};
@@ -113,15 +114,19 @@ fn outcomes_told(
     let classes = &found.classes;
     let name = name_of(alloc, paths)?;
     let ranks = ranks_of(alloc, wanted.ranks, &classes.told.stretches)?;
+    let levels = level_lines(alloc, spec)?;
     let page = Page {
         path: name.as_str(),
         orders: spec.ranks(),
+        all_orders: false,
         sessions: spec.session_names(),
         steps: spec.step_names(),
         tables: &[],
         by: ClassKind::Outcomes,
         is_filtered: classes.missing.is_some(),
+        filters: "",
         missing: classes.missing,
+        level_lines: levels.as_slice(),
         expectations: &[],
         totals: classes.totals,
         rows: classes.rows.as_slice(),

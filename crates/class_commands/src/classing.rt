@@ -1,12 +1,13 @@
 //! Orders of a spec in classes, from the bytes of the spec to the text that is written.
 
 ghost use Rattle.std.specs.Prelude.{◌≡◌, ◌<◌, ℕ, IfErr, IfOk, List, false};
-ghost use Rattle.spec_schedules.specs.declared.kind.Kind.TheVariants.{Permutations};
+ghost use Rattle.machine_model.specs.Start.{Started, start};
+ghost use Rattle.machine_model.specs.World.{World};
 ghost use Rattle.spec_texts.specs.Texts.{Declares};
 ghost use Rattle.transcripts.specs.Counted.{failures_of};
 ghost use Rattle.class_rows.specs.Pages.{IsClassed};
 ghost use Rattle.class_rows.specs.Telling.{AreSerialOf};
-ghost use Rattle.class_commands.specs.Classing.{IsClassesRun, IsFinding, grouping};
+ghost use Rattle.class_commands.specs.Classing.{IsClassesRun, IsFinding, grouping, kind_by};
 ghost use Rattle.class_commands.specs.Opened.{HasOrders};
 ghost use Rattle.bound_specs.specs.Spec.{SpecFile};
 ghost use Rattle.class_commands.specs.Parts.{IsAskedSpec, IsNotCounted, IsNotFound, IsTextOf, Writes};
@@ -33,9 +34,6 @@ use std::io::Write;
 use std::time::Clock;
 use transcripts::{Counted, WriteFault};
 use wanted_classes::WantedClasses;
-
-/// The states of a spec may take so many bytes, 2 GB.
-const ROOM: usize = 2_000_000_000;
 
 /// Why classes were not written. Each is tried before those below it, but for want of memory.
 #[derive(Clone, Copy, Drop)]
@@ -71,7 +69,7 @@ pub fn classes<'a, V: Watch, W: Write>(
         Ok(asked) => asked,
         Err(fault) => return Err(fault),
     };
-    let found = match found_of(alloc, &asked, grouping(wanted.answers), watch) {
+    let found = match found_of(alloc, &asked, wanted, watch) {
         Ok(found) => found,
         Err(fault) => return Err(fault),
     };
@@ -102,10 +100,10 @@ pub fn classes_told<'a, C: Clock, W: Write, E: Write>(
     result
 }
 
-pub(crate) fn grouping(answers: bool) -> Grouping
-    ensures { result ≡ grouping answers }
+pub(crate) fn grouping(by_result: bool) -> Grouping
+    ensures { result ≡ grouping by_result }
 {
-    if answers {
+    if by_result {
         Grouping::Answers
     } else {
         Grouping::Shows
@@ -116,16 +114,22 @@ pub(crate) fn grouping(answers: bool) -> Grouping
 fn found_of<'a, V: Watch>(
     alloc: Global,
     asked: &AskedSpec<'a>,
-    by: Grouping,
+    wanted: &WantedClasses<'a>,
     watch: &V,
 ) -> Result<Classed, ClassesFault<'a>>
-    ensures found { IfOk result (IsClassed Permutations asked.now.tables.items asked.now.spec.run asked.now.asked.filters.items by) }
+    ensures found { IfOk result (IsClassed (kind_by wanted.now.all_orders) asked.now.tables.items asked.now.spec.run asked.now.asked.filters.items (grouping wanted.now.by_result)) }
+    ensures starts { IfOk result (λ _. (w : World) × (start asked.now.spec.run ≡ Started w)) }
     ensures refused { IfErr result (IsNotFound asked.now.spec) }
 {
-    let spec = &asked.spec;
-    let tables = asked.tables.as_slice();
+    let explored = Explored {
+        spec: &asked.spec,
+        tables: asked.tables.as_slice(),
+        kind: kind_by(wanted.all_orders),
+        room: room_of(wanted.memory),
+    };
+    let by = grouping(wanted.by_result);
     let filters = asked.asked.filters.as_slice();
-    match found_in(alloc, spec, tables, by, filters, watch) {
+    match found_in(alloc, explored, by, filters, watch) {
         Ok(found) => Ok(found),
         Err(error) => Err(fault_of(error)),
     }
@@ -143,19 +147,50 @@ fn fault_of<'a>(error: StatesError) -> ClassesFault<'a>
     }
 }
 
+/// The spec whose orders of a kind are explored, with its tables and the bytes that different states may take.
+#[derive(Clone, Copy)]
+struct Explored<'a> {
+    spec: &'a Spec,
+    tables: &'a [Table],
+    kind: Kind,
+    room: usize,
+}
+
+/// All permutations, or those orders alone that clients can send.
+fn kind_by(all_orders: bool) -> Kind
+    ensures { result ≡ kind_by all_orders }
+{
+    if all_orders {
+        Kind::Permutations
+    } else {
+        Kind::Schedules
+    }
+}
+
+/// So many megabytes in bytes.
+fn room_of(megabytes: u64) -> usize {
+    (megabytes as usize).saturating_mul(1_000_000)
+}
+
 /// What is found of the orders of a spec that pass filters.
 fn found_in<V: Watch>(
     alloc: Global,
-    spec: &Spec,
-    tables: &[Table],
+    explored: Explored<'_>,
     by: Grouping,
     filters: &[Filter],
     watch: &V,
 ) -> Result<Classed, StatesError>
-    ensures found { IfOk result (IsClassed Permutations tables.now spec.now.run filters.now by) }
-    ensures refused { IfErr result (IsNotCounted spec.now) }
+    ensures found { IfOk result (IsClassed explored.entry.kind explored.entry.tables.now explored.entry.spec.now.run filters.now by) }
+    ensures starts { IfOk result (λ _. (w : World) × (start explored.entry.spec.now.run ≡ Started w)) }
+    ensures refused { IfErr result (IsNotCounted explored.entry.spec.now) }
 {
-    let classes = match classes_of(alloc, spec, tables, Kind::Permutations, ROOM, watch) {
+    let Explored {
+        spec,
+        tables,
+        kind,
+        room,
+    } = explored;
+    let classes = match classes_of(alloc, spec, tables, kind, room, watch) {
         Ok(classes) => classes,
         Err(error) => return Err(error),
     };
@@ -166,7 +201,7 @@ fn found_in<V: Watch>(
     let found = FoundOrders {
         spec,
         tables,
-        kind: Kind::Permutations,
+        kind,
         classes: classes.as_slice(),
         serial: &serial,
     };
@@ -198,7 +233,8 @@ fn tell<'a, W: Write>(
 ) -> Result<Finding, ClassesFault<'a>>
     requires fresh { failures_of out.old < u64.MAX }
     requires tables { Declares asked.now.spec.text asked.now.spec asked.now.tables.items }
-    requires found { IsClassed Permutations asked.now.tables.items asked.now.spec.run asked.now.asked.filters.items (grouping wanted.now.answers) found.now }
+    requires found { IsClassed (kind_by wanted.now.all_orders) asked.now.tables.items asked.now.spec.run asked.now.asked.filters.items (grouping wanted.now.by_result) found.now }
+    requires starts { (w : World) × (start asked.now.spec.run ≡ Started w) }
     ensures { (bytes : List ℕ) → IsAskedSpec bytes wanted.now asked.now → IsClassesRun W.contents out.old out.new bytes path.now wanted.now result }
 {
     let spec = &asked.spec;

@@ -4,6 +4,7 @@
 mod asking;
 mod booking;
 mod classing;
+mod filters;
 mod opened;
 mod progress;
 mod telling;

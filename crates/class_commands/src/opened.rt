@@ -10,7 +10,7 @@ ghost use Rattle.class_commands.specs.Opened.{AreOrdersOf, HasOrders, IsPageOf, 
 ghost use Rattle.class_commands.specs.OpenedParts.{IsPushed};
 ghost use Rattle.class_commands.specs.Written.{written_bytes};
 
-use crate::written::{Written, json_of, written_page};
+use crate::written::{Written, json_of, written_page, written_record};
 use binding_model::Table;
 use bound_specs::Spec;
 use class_texts::Page;
@@ -43,6 +43,7 @@ pub(crate) fn orders_for(
     match form {
         WantedForm::Text => Ok(Vec::new(alloc)),
         WantedForm::Json => Ok(Vec::new(alloc)),
+        WantedForm::Record => Ok(Vec::new(alloc)),
         WantedForm::Html => first_orders(alloc, spec, tables, path, rows),
     }
 }
@@ -169,6 +170,7 @@ pub(crate) fn written_as(
         WantedForm::Text => written_page(alloc, spec, page, false),
         WantedForm::Json => written_page(alloc, spec, page, true),
         WantedForm::Html => opened_page(alloc, spec, page, orders),
+        WantedForm::Record => written_record(alloc, page),
     }
 }
 

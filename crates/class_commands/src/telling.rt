@@ -9,6 +9,7 @@ ghost use Rattle.class_commands.specs.Written.{written_bytes};
 ghost use Rattle.class_commands.specs.Opened.{HasOrders};
 
 use crate::classing::grouping;
+use crate::filters::filters_text;
 use crate::opened::written_as;
 use crate::written::Written;
 use asked_classes::{AskedClasses, AskedExpectation, AskedLook};
@@ -20,6 +21,7 @@ use class_rows::Classed;
 use class_texts::{ClassKind, Expected, Looked, Page, one_row_is_met};
 use events::Event;
 use order_classes::{ClassRow, Filter};
+use spec_texts::level_lines;
 use std::alloc::{AllocError, Global};
 use wanted_classes::WantedClasses;
 
@@ -42,15 +44,20 @@ pub(crate) fn told<'a>(
     let rows = found.rows.as_slice();
     let looks = looks_over(alloc, asked.looks.as_slice(), rows)?;
     let expectations = expectations_over(alloc, asked.expectations.as_slice(), rows)?;
+    let levels = level_lines(alloc, spec)?;
+    let filters = filters_text(alloc, wanted.filters.as_slice())?;
     let page = Page {
         path,
-        orders: spec.ranks(),
+        orders: found.orders,
+        all_orders: wanted.all_orders,
         sessions: spec.session_names(),
         steps: spec.step_names(),
         tables,
-        by: ClassKind::of(grouping(wanted.answers)),
+        by: ClassKind::of(grouping(wanted.by_result)),
         is_filtered: has_some(asked.filters.as_slice()),
+        filters: filters.as_str(),
         missing: None,
+        level_lines: levels.as_slice(),
         expectations: expectations.as_slice(),
         totals: found.totals,
         rows,
@@ -58,7 +65,7 @@ pub(crate) fn told<'a>(
         with_ranks: false,
         ranks: &[],
         with_outcomes: wanted.outcomes,
-        with_left: wanted.left,
+        with_left: wanted.final_rows,
         looks: looks.as_slice(),
     };
     let written = written_as(alloc, spec, &page, wanted.form, orders)?;

@@ -1,11 +1,12 @@
 //! A page of classes, as it is written.
 
 ghost use Rattle.std.specs.Prelude.{◌≡◌, IfOk, true};
+ghost use Rattle.class_texts.specs.Records.{record_bytes};
 ghost use Rattle.class_commands.specs.Written.{AreRanks, IsWritten, written_bytes};
 
 use bound_specs::Spec;
 use class_stretches::{RankRun, Stretches};
-use class_texts::{Page, classes_text};
+use class_texts::{Page, classes_text, record_text};
 use class_values::{Sheet, classes_json};
 use spec_commands::sessions_of_steps;
 use spec_texts::statement_texts;
@@ -43,6 +44,14 @@ pub(crate) fn written_page(
         return json_of(alloc, spec, page);
     }
     let text = classes_text(alloc, page)?;
+    Ok(Written::Text(text))
+}
+
+/// The record of the results.
+pub(crate) fn written_record(alloc: Global, page: &Page<'_>) -> Result<Written, AllocError>
+    ensures { IfOk result (λ w. written_bytes w ≡ record_bytes page.now) }
+{
+    let text = record_text(alloc, page)?;
     Ok(Written::Text(text))
 }
 

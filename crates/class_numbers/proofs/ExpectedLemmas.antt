@@ -8,16 +8,16 @@ use Rattle.bound_specs.specs.Spec.{Spec}
 use Rattle.events.specs.declared.event.Event.{Event}
 use Rattle.spec_schedules.specs.declared.kind.Kind.{Kind}
 use Rattle.spec_classes.specs.Classes.{ShowsAt}
-use Rattle.spec_classes.proofs.Counts.{number-none, number-same, number-sum}
+use Rattle.spec_classes.proofs.Counts.{behind, number-none, number-same, number-sum}
 use Rattle.order_classes.specs.declared.letters.Filter.{Filter}
 use Rattle.order_classes.specs.declared.rows.ClassRow.{ClassRow}
 use Rattle.order_classes.specs.declared.rows.Grouping.{Grouping}
 use Rattle.order_classes.specs.declared.rows.Grouping.TheVariants as the
 use Rattle.order_classes.specs.declared.shows.Shows.{Shows}
 use Rattle.order_classes.specs.Looks.{IsLook, Meets, one_row}
-use Rattle.order_classes.specs.Numbers.{IsNumberOf, IsLeastOf}
+use Rattle.order_classes.specs.Numbers.{IsNumberOf, IsLeastOf, RiseFrom}
 use Rattle.order_classes.specs.Shows.{shows_of_line}
-use Rattle.class_rows.specs.Pages.{IsAskedWith, IsClassed, IsRow, AllLater, RowsRise, told_by as grouped_by}
+use Rattle.class_rows.specs.Pages.{IsAskedWith, IsClassed, IsRow, told_by as grouped_by}
 use Rattle.class_rows.specs.declared.rows.Classed.{Classed}
 use Rattle.class_looks.specs.Laws.{ExpectationsAreSeen, LooksSeeLines}
 use Rattle.class_looks.specs.Seeing.{told_by, sees}
@@ -43,11 +43,6 @@ seen-next seen k f row rows is j = ap (λ n. get_or seen n []) (let e : (k + 1) 
 seen-here : (seen : List (List Event)) (k : ℕ) (f : ClassRow → List Event) (row : ClassRow) (rows : List ClassRow) → IsSeen seen k f (row ∷ rows)
     → get_or seen k [] ≡ f row
 seen-here seen k f row rows is = ap (λ n. get_or seen n []) (let e : k ≡ k + 0 = omega arith in e) ∙ is 0
-
-later : (n : ℕ) (rows : List ClassRow) (row : ClassRow) → AllLater n rows → Among row rows → n < row.least
-later n [] row a m = absurd m
-later n (r ∷ rows) row a (inl e) = subst (λ (x : ClassRow). n < x.least) (sym e) a.0
-later n (r ∷ rows) row a (inr m) = later n rows row a.1 m
 
 module _ (kind : Kind) (tables : List Table) (run : Spec) (filters : List Filter) (by : Grouping) (seen : ExpectationsAreSeen)
     (alone : (rank : ℕ) (s t : Shows) → ShowsAt kind tables run rank s → ShowsAt kind tables run rank t → s ≡ t) (e : AskedExpectation)
@@ -96,12 +91,12 @@ module _ (kind : Kind) (tables : List Table) (run : Spec) (filters : List Filter
   InSome rows rank = (row : ClassRow) × Among row rows × Is row × InRow row rank
 
   apart : (row : ClassRow) (rows : List ClassRow) → IsRow kind tables run filters by row
-      → ((r : ClassRow) → Among r rows → IsRow kind tables run filters by r) → AllLater row.least rows → (rank : ℕ) → InRow row rank → (r : ClassRow) → Among r rows
-      → InRow r rank → ⊥
+      → ((r : ClassRow) → Among r rows → IsRow kind tables run filters by r) → RiseFrom (suc row.least) (map (λ (r : ClassRow). r.least) rows) → (rank : ℕ) → InRow row rank
+      → (r : ClassRow) → Among r rows → InRow r rank → ⊥
   apart row rows is each rise rank x r m y =
       let same : x.0 ≡ y.0 = alone rank x.0 y.0 x.1 y.1 in
       let like : grouped_by by row.shows ≡ grouped_by by r.shows = sym x.3 ∙ ap (grouped_by by) same ∙ y.3 in
-      let lt = later row.least rows r rise m in
+      let lt = behind (λ (z : ClassRow). z.least) (suc row.least) rows r rise m in
       let le : r.least ≤ row.least =
       (each r m).least.least row.least
       (subst (λ t. IsAskedWith kind tables run filters (λ s. grouped_by by s ≡ t) row.least) like is.least.is_so) in
@@ -116,12 +111,12 @@ module _ (kind : Kind) (tables : List Table) (run : Spec) (filters : List Filter
     met-here k row rows s = ap (meets x.values) (seen-here x.seen k (seen_of e.look) row rows s)
 
     -- so many orders of the rows are as expected
-    met-number : (k : ℕ) (rows : List ClassRow) → ((r : ClassRow) → Among r rows → IsRow kind tables run filters by r) → RowsRise rows
-        → IsSeen x.seen k (seen_of e.look) rows → IsNumberOf (InSome rows) (met_from x k rows)
-    met-number k [] each rise s = number-none (InSome []) (λ rank p. p.1)
-    met-number k (row ∷ rows) each rise s =
+    met-number : (low k : ℕ) (rows : List ClassRow) → ((r : ClassRow) → Among r rows → IsRow kind tables run filters by r)
+        → RiseFrom low (map (λ (row : ClassRow). row.least) rows) → IsSeen x.seen k (seen_of e.look) rows → IsNumberOf (InSome rows) (met_from x k rows)
+    met-number low k [] each rise s = number-none (InSome []) (λ rank p. p.1)
+    met-number low k (row ∷ rows) each rise s =
         at (is_met_at x k) (subst (λ b. (b ≡ true) ↔ Is row) (sym (met-here k row rows s)) (row-tells row))
-        (met-number (k + 1) rows (λ r m. each r (inr m)) rise.1 (seen-next x.seen k (seen_of e.look) row rows s))
+        (met-number (suc row.least) (k + 1) rows (λ r m. each r (inr m)) rise.1 (seen-next x.seen k (seen_of e.look) row rows s))
       where
         own : IsRow kind tables run filters by row
         own = each row (inl refl)
@@ -132,7 +127,7 @@ module _ (kind : Kind) (tables : List Table) (run : Spec) (filters : List Filter
             number-same (λ rank. InRow row rank ⊎ InSome rows rank) (InSome (row ∷ rows)) (row.count + met_from x (k + 1) rows)
             (λ rank p. ⊎_elim (λ y. (row, inl refl, tell.0 refl, y)) (λ y. (y.0, inr y.1, y.2, y.3)) p) (λ rank p. back rank p.0 p.1 p.2 p.3)
             (number-sum (InRow row) (InSome rows) row.count (met_from x (k + 1) rows) own.count rec
-            (λ rank y z. apart row rows own (λ r m. each r (inr m)) rise.0 rank y z.0 z.1 z.3))
+            (λ rank y z. apart row rows own (λ r m. each r (inr m)) rise.1 rank y z.0 z.1 z.3))
           where
             back : (rank : ℕ) (r : ClassRow) → Among r (row ∷ rows) → Is r → InRow r rank → InRow row rank ⊎ InSome rows rank
             back rank r (inl same) is y = inl (subst (λ (q : ClassRow). InRow q rank) same y)
@@ -151,11 +146,11 @@ module _ (kind : Kind) (tables : List Table) (run : Spec) (filters : List Filter
     IsFirstOf rows (Some miss) =
         Among miss.0 rows × (miss.1 ≡ seen_of e.look miss.0) × (Is miss.0 → ⊥) × ((r : ClassRow) → Among r rows → r.least < miss.0.least → Is r)
 
-    first-of : (k : ℕ) (rows : List ClassRow) → RowsRise rows → IsSeen x.seen k (seen_of e.look) rows → IsFirstOf rows (first_miss x k rows)
-    first-of k [] rise s = λ row m. absurd m
-    first-of k (row ∷ rows) rise s =
+    first-of : (low k : ℕ) (rows : List ClassRow) → RiseFrom low (map (λ (row : ClassRow). row.least) rows) → IsSeen x.seen k (seen_of e.look) rows → IsFirstOf rows (first_miss x k rows)
+    first-of low k [] rise s = λ row m. absurd m
+    first-of low k (row ∷ rows) rise s =
         at (is_met_at x k) (get_or x.seen k []) (first_miss x (k + 1) rows) (subst (λ b. (b ≡ true) ↔ Is row) (sym (met-here k row rows s)) (row-tells row))
-        (seen-here x.seen k (seen_of e.look) row rows s) (first-of (k + 1) rows rise.1 (seen-next x.seen k (seen_of e.look) row rows s))
+        (seen-here x.seen k (seen_of e.look) row rows s) (first-of (suc row.least) (k + 1) rows rise.1 (seen-next x.seen k (seen_of e.look) row rows s))
       where
         at : (b : Bool) (events : List Event) (rest : Option (ClassRow × List Event)) → (b ≡ true) ↔ Is row → events ≡ seen_of e.look row
             → IsFirstOf rows rest → IsFirstOf (row ∷ rows) (cond b rest (Some (row, events)))
@@ -173,7 +168,7 @@ module _ (kind : Kind) (tables : List Table) (run : Spec) (filters : List Filter
           where
             each : (r : ClassRow) → Among r (row ∷ rows) → r.least < row.least → Is r
             each r (inl same) lt = absurd (let least : r.least ≡ row.least = ap (λ (y : ClassRow). y.least) same in omega (arith, lt, least))
-            each r (inr m) lt = absurd (let after : row.least < r.least = later row.least rows r rise.0 m in omega (arith, lt, after))
+            each r (inr m) lt = absurd (let after = behind (λ (z : ClassRow). z.least) (suc row.least) rows r rise.1 m in omega (arith, lt, after))
 
 -- ---- of orders
 
@@ -227,8 +222,8 @@ module _ (kind : Kind) (tables : List Table) (run : Spec) (filters : List Filter
     expectation-told one sees-lines = record {
       met = number-same (InSome kind tables run filters by seen is.alone e look x.rows.items) (IsAsExpected kind tables run filters e)
           (met_from over 0 x.rows.items) there back
-          (met-number kind tables run filters by seen is.alone e look one over refl 0 x.rows.items is.each is.rise start);
-      first = by-miss (first_miss over 0 x.rows.items) (first-of kind tables run filters by seen is.alone e look one over refl 0 x.rows.items is.rise start);
+          (met-number kind tables run filters by seen is.alone e look one over refl 0 0 x.rows.items is.each is.rise start);
+      first = by-miss (first_miss over 0 x.rows.items) (first-of kind tables run filters by seen is.alone e look one over refl 0 0 x.rows.items is.rise start);
     }
       where
         start : IsSeen over.seen 0 (seen_of e.look) x.rows.items

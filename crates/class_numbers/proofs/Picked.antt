@@ -1,17 +1,12 @@
 -- The counts of some of the classes of ranks, added up, are the number of the ranks of these.
-use Rattle.std.proofs.Common.{◌≡◌, ◌↔◌, refl, sym, ap, subst, ℕ, ◌+◌, ◌<◌, Bool, true, false, cond, List, [], ◌∷◌, map, All, ◌⊎◌, inl, inr, ⊎_elim, arith}
+use Rattle.std.proofs.Common.{◌≡◌, ◌↔◌, refl, ap, subst, ℕ, suc, ◌+◌, ◌<◌, Bool, true, false, cond, List, [], ◌∷◌, map, All, ◌⊎◌, inl, inr, ⊎_elim, arith}
 use Rattle.std.proofs.lemmas.List.Elements.{All-cons, All-nil}
 use Rattle.std.specs.List.{AllZip}
 use Rattle.lock_queues.specs.Reasons.{Among}
-use Rattle.class_stretches.specs.Classes.{AllLater, AreGroups, Class, IsClass, LeastsRise, in_runs}
-use Rattle.order_classes.specs.Numbers.{IsNumberOf}
+use Rattle.class_stretches.specs.Classes.{AreGroups, Class, IsClass, in_runs}
+use Rattle.order_classes.specs.Numbers.{IsNumberOf, RiseFrom}
 use Rattle.class_stretches.proofs.Counted.{class-number}
-use Rattle.spec_classes.proofs.Counts.{number-none, number-same, number-sum}
-
-later : {A : Type 0} (n : ℕ) (cs : List (Class A)) (c : Class A) → AllLater n cs → Among c cs → n < c.least
-later n [] c a m = absurd m
-later {A = A} n (d ∷ cs) c a (inl e) = subst (λ (x : Class A). n < x.least) (sym e) a.0
-later n (d ∷ cs) c a (inr m) = later n cs c a.1 m
+use Rattle.spec_classes.proofs.Counts.{behind, number-none, number-same, number-sum}
 
 -- of each item of a list the test is so exactly where it is so of the class
 abbrev pub Tells : {A : Type 0} → (Class A → Type 0) → Class A → Bool → Type 0
@@ -50,14 +45,14 @@ module _ {A : Type 0} (show : ℕ → A → Type 0) (first end : ℕ) (one : (r 
       let w = (are.each c m).within r h in
       are.between c d m n (one r c.shows d.shows w.1 w.2 ((are.each d n).within r k).2)
 
-  picked : (Picks : Class A → Type 0) (cs : List (Class A)) (bs : List Bool) → ((c : Class A) → Among c cs → IsClass show first end c)
-      → ((c d : Class A) → Among c cs → Among d cs → (r : ℕ) → in_runs c.runs r ≡ true → in_runs d.runs r ≡ true → c ≡ d) → LeastsRise cs
-      → AllZip (Tells Picks) cs bs → IsNumberOf (InPicked Picks cs) (total cs bs)
-  picked Picks [] [] each alone rise tells = number-none (InPicked Picks []) (λ r p. p.1)
-  picked Picks [] (b ∷ bs) each alone rise tells = absurd tells
-  picked Picks (c ∷ cs) [] each alone rise tells = absurd tells
-  picked Picks (c ∷ cs) (b ∷ bs) each alone rise tells =
-      at b tells.0 (picked Picks cs bs (λ d m. each d (inr m)) (λ d e m n. alone d e (inr m) (inr n)) rise.1 tells.1)
+  picked : (Picks : Class A → Type 0) (low : ℕ) (cs : List (Class A)) (bs : List Bool) → ((c : Class A) → Among c cs → IsClass show first end c)
+      → ((c d : Class A) → Among c cs → Among d cs → (r : ℕ) → in_runs c.runs r ≡ true → in_runs d.runs r ≡ true → c ≡ d)
+      → RiseFrom low (map (λ (c : Class A). c.least) cs) → AllZip (Tells Picks) cs bs → IsNumberOf (InPicked Picks cs) (total cs bs)
+  picked Picks low [] [] each alone rise tells = number-none (InPicked Picks []) (λ r p. p.1)
+  picked Picks low [] (b ∷ bs) each alone rise tells = absurd tells
+  picked Picks low (c ∷ cs) [] each alone rise tells = absurd tells
+  picked Picks low (c ∷ cs) (b ∷ bs) each alone rise tells =
+      at b tells.0 (picked Picks (suc c.least) cs bs (λ d m. each d (inr m)) (λ d e m n. alone d e (inr m) (inr n)) rise.1 tells.1)
     where
       at : (t : Bool) → Tells Picks c t → IsNumberOf (InPicked Picks cs) (total cs bs) → IsNumberOf (InPicked Picks (c ∷ cs)) (cond t c.count 0 + total cs bs)
       at true is rec =
@@ -68,7 +63,7 @@ module _ {A : Type 0} (show : ℕ → A → Type 0) (first end : ℕ) (one : (r 
           (class-number show first end c (each c (inl refl))) rec
           (λ r h q.
           let same : c ≡ q.0 = alone c q.0 (inl refl) (inr q.1) r h q.3 in
-          let lt : c.least < q.0.least = later c.least cs q.0 rise.0 q.1 in
+          let lt = behind (λ (x : Class A). x.least) (suc c.least) cs q.0 rise.1 q.1 in
           let least : c.least ≡ q.0.least = ap (λ (x : Class A). x.least) same in
           omega (arith, lt, least)))
         where
@@ -87,4 +82,4 @@ module _ {A : Type 0} (show : ℕ → A → Type 0) (first end : ℕ) (one : (r 
   -- where lists tell which groups are picked
   pub groups-number : (Picks : Class A → Type 0) (cs : List (Class A)) (bs : List Bool) → AreGroups show first end cs → AllZip (Tells Picks) cs bs
       → IsNumberOf (InPicked Picks cs) (total cs bs)
-  groups-number Picks cs bs are tells = picked Picks cs bs are.each (apart cs are) are.rise tells
+  groups-number Picks cs bs are tells = picked Picks 0 cs bs are.each (apart cs are) are.rise tells

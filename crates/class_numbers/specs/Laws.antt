@@ -6,8 +6,7 @@ use Rattle.book_commands.specs.declared.finding.Finding.{Finding}
 use Rattle.book_commands.specs.declared.finding.Finding.TheVariants.{Good}
 use Rattle.book_commands.specs.Joining.{Files}
 use Rattle.class_commands.specs.Booking.{IsTellingOfBooks}
-use Rattle.class_commands.specs.Classing.{IsFoundIn, IsTellingOf}
-use Rattle.spec_schedules.specs.declared.kind.Kind.TheVariants.{Permutations}
+use Rattle.class_commands.specs.Classing.{IsFoundIn, IsTellingOf, kind_by}
 use Rattle.class_numbers.specs.Numbers.{AreAsExpected}
 use Rattle.class_numbers.specs.Told.{IsExpectationTold}
 use Rattle.class_numbers.specs.Books.{AreTold}
@@ -16,13 +15,13 @@ use Rattle.class_numbers.specs.Books.{AreTold}
 abbrev pub ExpectationsAreOfOrders : Type 0
 ExpectationsAreOfOrders =
     (bytes path : List ℕ) (wanted : WantedClasses) (text : List ℕ) (t : IsTellingOf bytes path wanted text)
-    → All (IsExpectationTold Permutations t.tables t.file.run t.asked.filters.items t.classed.rows.items) t.asked.expectations.items
+    → All (IsExpectationTold (kind_by wanted.all_orders) t.tables t.file.run t.asked.filters.items t.classed.rows.items) t.asked.expectations.items
 
 -- nothing is amiss exactly where each order that is asked for is as expected
 abbrev pub FindingsAreOfOrders : Type 0
 FindingsAreOfOrders =
     (bytes path : List ℕ) (wanted : WantedClasses) (text : List ℕ) (t : IsTellingOf bytes path wanted text) (finding : Finding)
-    → IsFoundIn t finding → (finding ≡ Good) ↔ All (AreAsExpected Permutations t.tables t.file.run t.asked.filters.items) t.asked.expectations.items
+    → IsFoundIn t finding → (finding ≡ Good) ↔ All (AreAsExpected (kind_by wanted.all_orders) t.tables t.file.run t.asked.filters.items) t.asked.expectations.items
 
 -- of books the totals count orders, each class has all orders of its outcome, and so many are missing as have none
 abbrev pub BooksAreOfOrders : Type 0

@@ -7,7 +7,7 @@ use Rattle.bound_specs.specs.Spec.{Spec}
 use Rattle.order_classes.specs.declared.shows.Shows.{Shows}
 use Rattle.order_classes.specs.Letters.{answers_of, is_through, IsR, LetterR}
 use Rattle.class_rows.specs.Telling.{AreSerialOf}
-use Rattle.class_rows.proofs.Lists.{at-among}
+use Rattle.different_shows.proofs.Places.{at-among}
 
 pub not-through : (tables : List Table) (run : Spec) (s : Shows) → run.lines ≡ [] → is_through s ≡ false → IsR tables run s (Some false)
 not-through tables run s none over = (none, ((λ h. absurd (let bad : false ≡ true = h in cc)), (λ odd. absurd (let bad : false ≡ true = sym over ∙ odd.through in cc))))

@@ -1,6 +1,5 @@
 -- What stands at the places of lists.
 use Rattle.std.proofs.Common.{◌≡◌, refl, sym, ap, ◌∙◌, ℕ, zero, suc, ◌<◌, ◌≤◌, List, [], ◌∷◌, ◌++◌, length, set, slice_get, take, Some, None, ◌⊎◌, inl, inr, ⊎_elim, arith}
-use Rattle.path_counts.specs.Paths.{Has}
 use Rattle.lock_queues.specs.Reasons.{Among}
 
 module _ {A : Type 0} where
@@ -64,38 +63,22 @@ module _ {A : Type 0} where
   push-long [] y = refl
   push-long (x ∷ xs) y = ap suc (push-long xs y)
 
-  -- what stands in a list has a place, and what has a place stands in it
-  pub among-at : (xs : List A) (a : A) → Among a xs → (n : ℕ) × (slice_get xs n ≡ Some a)
-  among-at [] a m = absurd m
-  among-at (x ∷ xs) a (inl e) = (0, ap Some (sym e))
-  among-at (x ∷ xs) a (inr m) = let r = among-at xs a m in (suc r.0, r.1)
-
-  pub at-among : (xs : List A) (n : ℕ) (a : A) → slice_get xs n ≡ Some a → Among a xs
-  at-among [] n a e = absurd (let h : None ≡ Some a = e in cc)
-  at-among (x ∷ xs) zero a e = inl (let h : Some x ≡ Some a = e in cc)
-  at-among (x ∷ xs) (suc n) a e = inr (at-among xs n a e)
-
-  pub at-has : (xs : List A) (n : ℕ) (a : A) → slice_get xs n ≡ Some a → Has a xs
-  at-has [] n a e = absurd (let h : None ≡ Some a = e in cc)
-  at-has (x ∷ xs) zero a e = inl (let h : Some x ≡ Some a = e in cc)
-  at-has (x ∷ xs) (suc n) a e = inr (at-has xs n a e)
-
   -- the first so many and the one behind them
-  pub take-parts : (xs : List A) (i : ℕ) (a b : A) → slice_get xs i ≡ Some a → Has b (take (suc i) xs) → Has b (take i xs) ⊎ (b ≡ a)
+  pub take-parts : (xs : List A) (i : ℕ) (a b : A) → slice_get xs i ≡ Some a → Among b (take (suc i) xs) → Among b (take i xs) ⊎ (b ≡ a)
   take-parts [] i a b e m = absurd (let h : None ≡ Some a = e in cc)
   take-parts (x ∷ xs) zero a b e (inl same) = inr (let h : Some x ≡ Some a = e in let k : x ≡ a = cc in same ∙ k)
   take-parts (x ∷ xs) zero a b e (inr m) = absurd m
   take-parts (x ∷ xs) (suc i) a b e (inl same) = inl (inl same)
   take-parts (x ∷ xs) (suc i) a b e (inr m) = ⊎_elim (λ h. inl (inr h)) (λ h. inr h) (take-parts xs i a b e m)
 
-  pub take-old : (xs : List A) (i : ℕ) (b : A) → Has b (take i xs) → Has b (take (suc i) xs)
+  pub take-old : (xs : List A) (i : ℕ) (b : A) → Among b (take i xs) → Among b (take (suc i) xs)
   take-old [] zero b m = absurd m
   take-old [] (suc i) b m = absurd m
   take-old (x ∷ xs) zero b m = absurd m
   take-old (x ∷ xs) (suc i) b (inl same) = inl same
   take-old (x ∷ xs) (suc i) b (inr m) = inr (take-old xs i b m)
 
-  pub take-new : (xs : List A) (i : ℕ) (a : A) → slice_get xs i ≡ Some a → Has a (take (suc i) xs)
+  pub take-new : (xs : List A) (i : ℕ) (a : A) → slice_get xs i ≡ Some a → Among a (take (suc i) xs)
   take-new [] i a e = absurd (let h : None ≡ Some a = e in cc)
   take-new (x ∷ xs) zero a e = inl (let h : Some x ≡ Some a = e in cc)
   take-new (x ∷ xs) (suc i) a e = inr (take-new xs i a e)

@@ -1,20 +1,23 @@
 -- The classes that pass.
-use Rattle.std.proofs.Common.{◌≡◌, ◌≢◌, ◌↔◌, refl, sym, ap, ◌∙◌, subst, ℕ, zero, suc, ◌+◌, ◌<◌, ◌≤◌, Bool, true, false, List, [], ◌∷◌, ◌++◌, take, drop, length, slice_get, Option, Some, None, inl, inr, unwrap_or, arith}
-use Rattle.path_counts.specs.Paths.{Has}
+use Rattle.std.proofs.Common.{◌≡◌, ◌≢◌, ◌↔◌, refl, sym, ap, ◌∙◌, subst, ℕ, zero, suc, ◌+◌, ◌<◌, ◌≤◌, Bool, true, false, List, [], ◌∷◌, ◌++◌, take, drop, length, map, slice_get, Option, Some, None, inl, inr, unwrap_or, arith}
+use Rattle.lock_queues.specs.Reasons.{Among}
 use Rattle.binding_model.specs.declared.tables.Table.{Table}
 use Rattle.bound_specs.specs.Spec.{Spec}
 use Rattle.spec_schedules.specs.declared.kind.Kind.{Kind}
 use Rattle.spec_classes.specs.declared.classes.OrderClass.{OrderClass}
-use Rattle.spec_classes.specs.Classes.{ShowsAt, AreClassesOf, total_count, AllBehind as ClassesBehind, FirstsRise as ClassesRise}
+use Rattle.spec_classes.specs.Classes.{ShowsAt, AreClassesOf, total_count}
+use Rattle.spec_classes.proofs.Counts.{behind}
 use Rattle.order_classes.specs.declared.shows.Shows.{Shows}
 use Rattle.order_classes.specs.declared.rows.Letters.{Letters}
 use Rattle.order_classes.specs.declared.letters.Filter.{Filter}
 use Rattle.order_classes.specs.Asked.{Passes, pass_all}
 use Rattle.order_classes.specs.Letters.{IsR}
+use Rattle.order_classes.specs.Numbers.{RiseFrom}
 use Rattle.order_classes.specs.Shows.{shows_of_line}
+use Rattle.different_shows.proofs.Places.{at-among}
 use Rattle.class_rows.specs.declared.passing.Passing.{Passing}
 use Rattle.class_rows.specs.Pages.{AreLetters}
-use Rattle.class_rows.specs.Telling.{AllBehind, AreAdded, ArePassing, FirstsRise, count_of}
+use Rattle.class_rows.specs.Telling.{AreAdded, ArePassing, count_of}
 
 -- R is told in one way
 pub r-same : (tables : List Table) (run : Spec) (s : Shows) (p q : Option Bool) → IsR tables run s p → IsR tables run s q → p ≡ q
@@ -42,13 +45,13 @@ passes-not tables run filters s r is h x =
     cc
 
 module _ (tables : List Table) (run : Spec) (filters : List Filter) where
-  pub passing-each : (cs : List OrderClass) (ps : List Passing) → ArePassing tables run filters cs ps → (p : Passing) → Has p ps
-      → Has p.class.now cs × Passes tables run filters p.class.now.shows × AreLetters tables run p.class.now.shows p.letters
-  passing-each [] ps are p m = absurd (subst (Has p) are m)
-  passing-each (c ∷ cs) ps (inl x) p m = at (λ n. passing-each cs x.1 x.6 p n) (subst (Has p) x.2 m)
+  pub passing-each : (cs : List OrderClass) (ps : List Passing) → ArePassing tables run filters cs ps → (p : Passing) → Among p ps
+      → Among p.class.now cs × Passes tables run filters p.class.now.shows × AreLetters tables run p.class.now.shows p.letters
+  passing-each [] ps are p m = absurd (subst (Among p) are m)
+  passing-each (c ∷ cs) ps (inl x) p m = at (λ n. passing-each cs x.1 x.6 p n) (subst (Among p) x.2 m)
     where
-      at : (Has p x.1 → Has p.class.now cs × Passes tables run filters p.class.now.shows × AreLetters tables run p.class.now.shows p.letters)
-          → Has p (x.0 ∷ x.1) → Has p.class.now (c ∷ cs) × Passes tables run filters p.class.now.shows × AreLetters tables run p.class.now.shows p.letters
+      at : (Among p x.1 → Among p.class.now cs × Passes tables run filters p.class.now.shows × AreLetters tables run p.class.now.shows p.letters)
+          → Among p (x.0 ∷ x.1) → Among p.class.now (c ∷ cs) × Passes tables run filters p.class.now.shows × AreLetters tables run p.class.now.shows p.letters
       at rest (inl e) =
           let own : p.class.now ≡ c = ap (λ (q : Passing). q.class.now) e ∙ x.3 in (
             inl own,
@@ -59,29 +62,27 @@ module _ (tables : List Table) (run : Spec) (filters : List Filter) where
       at rest (inr n) = let rec = rest n in (inr rec.0, rec.1, rec.2)
   passing-each (c ∷ cs) ps (inr x) p m = let rec = passing-each cs ps x.1 p m in (inr rec.0, rec.1, rec.2)
 
-  pub passing-all : (cs : List OrderClass) (ps : List Passing) → ArePassing tables run filters cs ps → (c : OrderClass) → Has c cs
-      → Passes tables run filters c.shows → (p : Passing) × Has p ps × (p.class.now ≡ c)
+  pub passing-all : (cs : List OrderClass) (ps : List Passing) → ArePassing tables run filters cs ps → (c : OrderClass) → Among c cs
+      → Passes tables run filters c.shows → (p : Passing) × Among p ps × (p.class.now ≡ c)
   passing-all [] ps are c m h = absurd m
-  passing-all (d ∷ cs) ps (inl x) c (inl e) h = (x.0, subst (Has x.0) (sym x.2) (inl refl), x.3 ∙ sym e)
+  passing-all (d ∷ cs) ps (inl x) c (inl e) h = (x.0, subst (Among x.0) (sym x.2) (inl refl), x.3 ∙ sym e)
   passing-all (d ∷ cs) ps (inl x) c (inr m) h =
       let rec = passing-all cs x.1 x.6 c m h in
-      (rec.0, subst (Has rec.0) (sym x.2) (inr rec.1), rec.2)
+      (rec.0, subst (Among rec.0) (sym x.2) (inr rec.1), rec.2)
   passing-all (d ∷ cs) ps (inr x) c (inl e) h = absurd (x.0 (subst (λ (y : OrderClass). Passes tables run filters y.shows) e h))
   passing-all (d ∷ cs) ps (inr x) c (inr m) h = passing-all cs ps x.1 c m h
 
-  passing-behind : (low : ℕ) (cs : List OrderClass) (ps : List Passing) → ArePassing tables run filters cs ps → ClassesBehind low cs → AllBehind low ps
-  passing-behind low [] ps are behind = subst (AllBehind low) (sym are) tt
-  passing-behind low (c ∷ cs) ps (inl x) behind =
-      subst (AllBehind low) (sym x.2)
-      (subst (λ (d : OrderClass). low < d.first) (sym x.3) behind.0, passing-behind low cs x.1 x.6 behind.1)
-  passing-behind low (c ∷ cs) ps (inr x) behind = passing-behind low cs ps x.1 behind.1
-
-  pub passing-rise : (cs : List OrderClass) (ps : List Passing) → ArePassing tables run filters cs ps → ClassesRise cs → FirstsRise ps
-  passing-rise [] ps are rise = subst FirstsRise (sym are) tt
-  passing-rise (c ∷ cs) ps (inl x) rise =
-      subst FirstsRise (sym x.2)
-      (subst (λ (d : OrderClass). AllBehind d.first x.1) (sym x.3) (passing-behind c.first cs x.1 x.6 rise.0), passing-rise cs x.1 x.6 rise.1)
-  passing-rise (c ∷ cs) ps (inr x) rise = passing-rise cs ps x.1 rise.1
+  pub passing-rise : (low high : ℕ) (cs : List OrderClass) (ps : List Passing) → ArePassing tables run filters cs ps → low ≤ high
+      → RiseFrom high (map (λ (c : OrderClass). c.first) cs) → RiseFrom low (map (λ (p : Passing). p.class.now.first) ps)
+  passing-rise low high [] ps are le rise = subst (λ qs. RiseFrom low (map (λ (p : Passing). p.class.now.first) qs)) (sym are) tt
+  passing-rise low high (c ∷ cs) ps (inl x) le rise =
+      let own : x.0.class.now.first ≡ c.first = ap (λ (d : OrderClass). d.first) x.3 in
+      let first : high ≤ c.first = rise.0 in
+      subst (λ qs. RiseFrom low (map (λ (p : Passing). p.class.now.first) qs)) (sym x.2)
+      (omega (arith, le, own, first), passing-rise (suc x.0.class.now.first) (suc c.first) cs x.1 x.6 (omega (arith, own)) rise.1)
+  passing-rise low high (c ∷ cs) ps (inr x) le rise =
+      let first : high ≤ c.first = rise.0 in
+      passing-rise low (suc c.first) cs ps x.1 (omega (arith, le, first)) rise.1
 
   pub passing-few : (cs : List OrderClass) (ps : List Passing) → ArePassing tables run filters cs ps → count_of ps ≤ total_count cs
   passing-few [] ps are = subst (λ qs. count_of qs ≤ 0) (sym are) (omega arith)
@@ -104,7 +105,7 @@ pub passing-added : (kind : Kind) (tables : List Table) (run : Spec) (filters : 
 passing-added kind tables run filters cs ps are passing = record {
   each = λ p m. (let x = passing-each tables run filters cs ps passing p m in are.each p.class.now x.0);
   told = λ p m. (let x = passing-each tables run filters cs ps passing p m in r-told tables run p.class.now.shows p.letters x.2);
-  rise = passing-rise tables run filters cs ps passing are.rise;
+  rise = passing-rise tables run filters 0 0 cs ps passing (omega arith) are.rise;
   alone = λ rank s t x y.
       (let same : x.0 ≡ y.0 = are.alone rank x.0 y.0 x.1 y.1 in
       let both : Some s ≡ Some t = sym x.2 ∙ ap (shows_of_line tables run) same ∙ y.2 in
@@ -181,26 +182,17 @@ count-front (q ∷ ps) zero p e =
     omega (arith, own)
 count-front (q ∷ ps) (suc i) p e = let rec = count-front ps i p e in omega (arith, rec)
 
-pub behind-at : (low : ℕ) (ps : List Passing) (p : Passing) → AllBehind low ps → Has p ps → low < p.class.now.first
-behind-at low [] p behind m = absurd m
-behind-at low (q ∷ ps) p behind (inl e) = subst (λ (x : Passing). low < x.class.now.first) (sym e) behind.0
-behind-at low (q ∷ ps) p behind (inr m) = behind-at low ps p behind.1 m
-
-at-has : (ps : List Passing) (i : ℕ) (p : Passing) → slice_get ps i ≡ Some p → Has p ps
-at-has [] i p e = absurd (let h : None ≡ Some p = e in cc)
-at-has (q ∷ ps) zero p e = inl (let h : Some q ≡ Some p = e in cc)
-at-has (q ∷ ps) (suc i) p e = inr (at-has ps i p e)
-
 -- those before one begin before it
-pub rise-before : (ps : List Passing) (i : ℕ) (p q : Passing) → FirstsRise ps → slice_get ps i ≡ Some p → Has q (take i ps)
+pub rise-before : (low : ℕ) (ps : List Passing) (i : ℕ) (p q : Passing) → RiseFrom low (map (λ (x : Passing). x.class.now.first) ps) → slice_get ps i ≡ Some p → Among q (take i ps)
     → q.class.now.first < p.class.now.first
-rise-before [] i p q rise e m = absurd (let h : None ≡ Some p = e in cc)
-rise-before (x ∷ ps) zero p q rise e m = absurd m
-rise-before (x ∷ ps) (suc i) p q rise e (inl same) =
-    subst (λ (y : Passing). y.class.now.first < p.class.now.first) (sym same) (behind-at x.class.now.first ps p rise.0 (at-has ps i p e))
-rise-before (x ∷ ps) (suc i) p q rise e (inr m) = rise-before ps i p q rise.1 e m
+rise-before low [] i p q rise e m = absurd (let h : None ≡ Some p = e in cc)
+rise-before low (x ∷ ps) zero p q rise e m = absurd m
+rise-before low (x ∷ ps) (suc i) p q rise e (inl same) =
+    let le = behind (λ (y : Passing). y.class.now.first) (suc x.class.now.first) ps p rise.1 (at-among ps i p e) in
+    subst (λ (y : Passing). y.class.now.first < p.class.now.first) (sym same) (omega (arith, le))
+rise-before low (x ∷ ps) (suc i) p q rise e (inr m) = rise-before (suc x.class.now.first) ps i p q rise.1 e m
 
-pub take-has : (ps : List Passing) (i : ℕ) (q : Passing) → Has q (take i ps) → Has q ps
+pub take-has : (ps : List Passing) (i : ℕ) (q : Passing) → Among q (take i ps) → Among q ps
 take-has [] zero q m = absurd m
 take-has [] (suc i) q m = absurd m
 take-has (x ∷ ps) zero q m = absurd m
@@ -208,7 +200,7 @@ take-has (x ∷ ps) (suc i) q (inl e) = inl e
 take-has (x ∷ ps) (suc i) q (inr m) = inr (take-has ps i q m)
 
 -- no rank has orders of two classes of which one begins before the other
-pub classes-apart : (kind : Kind) (tables : List Table) (run : Spec) (ps : List Passing) → AreAdded kind tables run ps → (p q : Passing) → Has p ps → Has q ps
+pub classes-apart : (kind : Kind) (tables : List Table) (run : Spec) (ps : List Passing) → AreAdded kind tables run ps → (p q : Passing) → Among p ps → Among q ps
     → q.class.now.first < p.class.now.first → (rank : ℕ) → ShowsAt kind tables run rank q.class.now.shows → ShowsAt kind tables run rank p.class.now.shows → ⊥
 classes-apart kind tables run ps are p q m n lt rank x y =
     let same : q.class.now.shows ≡ p.class.now.shows = are.alone rank q.class.now.shows p.class.now.shows x y in

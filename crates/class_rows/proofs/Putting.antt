@@ -1,7 +1,7 @@
 -- Rows, a class put to them after another.
 use Rattle.std.proofs.Common.{◌≡◌, ◌≢◌, ◌↔◌, refl, sym, ap, ◌∙◌, subst, ℕ, zero, suc, ◌+◌, ◌<◌, ◌≤◌, Bool, true, false, ◌||◌, List, [], ◌∷◌, ◌++◌, length, set, slice_get, Option, Some, None, ◌⊎◌, inl, inr, ⊎_elim, unwrap_or, arith}
 use Rattle.std.proofs.lemmas.Bool.{or_cases, or_left, or_right}
-use Rattle.path_counts.specs.Paths.{Has}
+use Rattle.lock_queues.specs.Reasons.{Among}
 use Rattle.binding_model.specs.declared.tables.Table.{Table}
 use Rattle.bound_specs.specs.Spec.{Spec}
 use Rattle.spec_schedules.specs.declared.kind.Kind.{Kind}
@@ -50,9 +50,9 @@ either-told Lines (Some x) (Some y) p q =
 
 module _ (kind : Kind) (tables : List Table) (run : Spec) (by : Grouping) (p : Passing) (qs qs' : List Passing)
     (is-class : IsClassOf kind tables run p.class.now) (told : (p.letters.not_serial ≡ None) ↔ (run.lines ≢ []))
-    (parts : (q : Passing) → Has q qs' → Has q qs ⊎ (q ≡ p)) (old : (q : Passing) → Has q qs → Has q qs') (new : Has p qs')
-    (counts : count_of qs' ≡ count_of qs + p.class.now.count) (before : (q : Passing) → Has q qs → q.class.now.first < p.class.now.first)
-    (apart : (q : Passing) → Has q qs → (rank : ℕ) → ShowsAt kind tables run rank q.class.now.shows → ShowsAt kind tables run rank p.class.now.shows → ⊥) where
+    (parts : (q : Passing) → Among q qs' → Among q qs ⊎ (q ≡ p)) (old : (q : Passing) → Among q qs → Among q qs') (new : Among p qs')
+    (counts : count_of qs' ≡ count_of qs + p.class.now.count) (before : (q : Passing) → Among q qs → q.class.now.first < p.class.now.first)
+    (apart : (q : Passing) → Among q qs → (rank : ℕ) → ShowsAt kind tables run rank q.class.now.shows → ShowsAt kind tables run rank p.class.now.shows → ⊥) where
   abbrev InOld : ClassRow → ℕ → Type 0
   InOld row rank = IsInRow kind tables run by qs row rank
 
@@ -82,7 +82,7 @@ module _ (kind : Kind) (tables : List Table) (run : Spec) (by : Grouping) (p : P
 
   -- a row of other classes, with this one
   joined-row : (row : ClassRow) → IsOf kind tables run by row p → IsRowOf kind tables run by qs row
-      → (first : (q : Passing) × Has q qs × (row.least ≡ q.class.now.first)) → IsRowOf kind tables run by qs' (with_class p row)
+      → (first : (q : Passing) × Among q qs × (row.least ≡ q.class.now.first)) → IsRowOf kind tables run by qs' (with_class p row)
   joined-row row of is first = record {
     count = number-same (λ rank. InOld row rank ⊎ ShowsAt kind tables run rank p.class.now.shows) (InNew row) (row.count + p.class.now.count) there back
         (number-sum (InOld row) (λ rank. ShowsAt kind tables run rank p.class.now.shows) row.count p.class.now.count is.count is-class.count
@@ -121,7 +121,7 @@ module _ (kind : Kind) (tables : List Table) (run : Spec) (by : Grouping) (p : P
           ⊎_elim (λ m. inl (x.0, m, x.2, x.3)) (λ e. inr (subst (λ (q : Passing). ShowsAt kind tables run rank q.class.now.shows) e x.3)) (parts x.0 x.1)
 
   -- the row of this one alone
-  first-row : (row : ClassRow) → IsFirst p row → ((q : Passing) → Has q qs → IsOf kind tables run by row q → ⊥) → IsRowOf kind tables run by qs' row
+  first-row : (row : ClassRow) → IsFirst p row → ((q : Passing) → Among q qs → IsOf kind tables run by row q → ⊥) → IsRowOf kind tables run by qs' row
   first-row row is none = record {
     count = subst (IsNumberOf (InNew row)) (sym is.count)
         (number-same (λ rank. ShowsAt kind tables run rank p.class.now.shows) (InNew row) p.class.now.count there back is-class.count);
@@ -140,7 +140,7 @@ module _ (kind : Kind) (tables : List Table) (run : Spec) (by : Grouping) (p : P
       own : IsOf kind tables run by row p
       own = ap (told_by by) (sym is.shows)
 
-      alone : (q : Passing) → Has q qs' → IsOf kind tables run by row q → q ≡ p
+      alone : (q : Passing) → Among q qs' → IsOf kind tables run by row q → q ≡ p
       alone q m of = ⊎_elim (λ n. absurd (none q n of)) (λ e. e) (parts q m)
 
       there : (rank : ℕ) → ShowsAt kind tables run rank p.class.now.shows → InNew row rank
@@ -168,7 +168,7 @@ module _ (kind : Kind) (tables : List Table) (run : Spec) (by : Grouping) (p : P
     number-of : (row : ClassRow) → slice_get rows n ≡ Some row → IsOf kind tables run by row p
     number-of row e = one-at keys' n (told_by by p.class.now.shows) (told_by by row.shows) number.at (key-kept n (told_by by row.shows) (are.keys_are n row e))
 
-    old-first : (m : ℕ) (row : ClassRow) → slice_get rows m ≡ Some row → (q : Passing) × Has q qs' × (row.least ≡ q.class.now.first)
+    old-first : (m : ℕ) (row : ClassRow) → slice_get rows m ≡ Some row → (q : Passing) × Among q qs' × (row.least ≡ q.class.now.first)
     old-first m row e = let x = are.before m row e in (x.0, old x.0 x.1, x.2)
 
     module _ (row : ClassRow) (at : slice_get rows n ≡ Some row) where
@@ -236,7 +236,7 @@ module _ (kind : Kind) (tables : List Table) (run : Spec) (by : Grouping) (p : P
       none-of m r e of = let same = of-number m r e of in let lt = inside-at rows m r e in omega (arith, same, lt, past)
 
       -- no class before is told so
-      none-before : (q : Passing) → Has q qs → IsOf kind tables run by row q → ⊥
+      none-before : (q : Passing) → Among q qs → IsOf kind tables run by row q → ⊥
       none-before q m of =
           let x = are.all q m in
           none-of x.0 x.1 x.2 (ap (told_by by) (sym first.shows) ∙ sym of ∙ x.3)

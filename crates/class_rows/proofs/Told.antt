@@ -1,12 +1,12 @@
 -- What is told of classes is told of their orders.
-use Rattle.std.proofs.Common.{◌≡◌, ◌≢◌, ◌↔◌, refl, sym, ap, ◌∙◌, subst, ℕ, suc, ◌+◌, ◌<◌, ◌≤◌, Bool, true, false, cond, List, [], ◌∷◌, slice_get, Option, Some, None, ◌⊎◌, inl, inr, ⊎_elim, arith}
-use Rattle.path_counts.specs.Paths.{Has}
+use Rattle.std.proofs.Common.{◌≡◌, ◌≢◌, ◌↔◌, refl, sym, ap, ◌∙◌, subst, ℕ, suc, ◌+◌, ◌<◌, ◌≤◌, Bool, true, false, cond, List, [], ◌∷◌, map, slice_get, Option, Some, None, ◌⊎◌, inl, inr, ⊎_elim, arith}
+use Rattle.lock_queues.specs.Reasons.{Among}
 use Rattle.binding_model.specs.declared.tables.Table.{Table}
 use Rattle.bound_specs.specs.Spec.{Spec}
 use Rattle.spec_schedules.specs.declared.kind.Kind.{Kind}
 use Rattle.spec_classes.specs.declared.classes.OrderClass.{OrderClass}
 use Rattle.spec_classes.specs.Classes.{ShowsAt, IsClassOf, AreClassesOf}
-use Rattle.spec_classes.proofs.Counts.{number-none, number-same, number-sum}
+use Rattle.spec_classes.proofs.Counts.{behind, number-none, number-same, number-sum}
 use Rattle.order_classes.specs.declared.shows.Shows.{Shows}
 use Rattle.order_classes.specs.declared.rows.Letters.{Letters}
 use Rattle.order_classes.specs.declared.rows.ClassRow.{ClassRow}
@@ -14,14 +14,14 @@ use Rattle.order_classes.specs.declared.rows.Grouping.{Grouping}
 use Rattle.order_classes.specs.declared.letters.Filter.{Filter}
 use Rattle.order_classes.specs.Asked.{Passes}
 use Rattle.order_classes.specs.Letters.{letter_w, letter_d, letter_e, letter_n, letter_s, IsR, LetterR}
-use Rattle.order_classes.specs.Numbers.{IsNumberOf}
+use Rattle.order_classes.specs.Numbers.{IsNumberOf, RiseFrom}
+use Rattle.different_shows.proofs.Places.{among-at, at-among}
 use Rattle.class_rows.specs.declared.letters.Letter.TheVariants as letter
 use Rattle.class_rows.specs.declared.passing.Passing.{Passing}
 use Rattle.class_rows.specs.declared.rows.Classed.{Classed}
-use Rattle.class_rows.specs.Pages.{told_by, letters_of, AreLetters, has_r, AllLater, RowsRise, AreTotals, IsAskedWith, IsClassed, IsJoined, IsRow, IsTotal}
-use Rattle.class_rows.specs.Telling.{has_letter, count_of, orders_with, total_by, totals_by, unless_lines, FirstsRise, AreAdded, ArePassing, AreRowsOf, IsInRow, IsLettered, IsRowOf}
-use Rattle.class_rows.proofs.Lists.{among-at, at-among}
-use Rattle.class_rows.proofs.Passes.{r-same, passing-each, passing-all, behind-at}
+use Rattle.class_rows.specs.Pages.{told_by, letters_of, AreLetters, has_r, AreTotals, IsAskedWith, IsClassed, IsJoined, IsRow, IsTotal}
+use Rattle.class_rows.specs.Telling.{has_letter, count_of, orders_with, total_by, totals_by, unless_lines, AreAdded, ArePassing, AreRowsOf, IsInRow, IsLettered, IsRowOf}
+use Rattle.class_rows.proofs.Passes.{r-same, passing-each, passing-all}
 
 -- ---- how many orders classes with a letter have
 
@@ -30,13 +30,14 @@ module _ (kind : Kind) (tables : List Table) (run : Spec)
     (IsSo : Shows → Type 0) where
   -- the rank's order is of one of the classes, and of that it is so
   abbrev pub IsInSome : List Passing → ℕ → Type 0
-  IsInSome ps rank = (p : Passing) × Has p ps × IsSo p.class.now.shows × ShowsAt kind tables run rank p.class.now.shows
+  IsInSome ps rank = (p : Passing) × Among p ps × IsSo p.class.now.shows × ShowsAt kind tables run rank p.class.now.shows
 
-  pub orders-number : (ps : List Passing) → ((p : Passing) → Has p ps → IsClassOf kind tables run p.class.now) → FirstsRise ps
-      → ((p : Passing) → Has p ps → (has p.letters ≡ true) ↔ IsSo p.class.now.shows) → IsNumberOf (IsInSome ps) (orders_with has ps)
-  orders-number [] each rise tells = number-none (IsInSome []) (λ rank x. x.1)
-  orders-number (p ∷ ps) each rise tells =
-      at (has p.letters) (tells p (inl refl)) (orders-number ps (λ q m. each q (inr m)) rise.1 (λ q m. tells q (inr m)))
+  pub orders-number : (low : ℕ) (ps : List Passing) → ((p : Passing) → Among p ps → IsClassOf kind tables run p.class.now)
+      → RiseFrom low (map (λ (p : Passing). p.class.now.first) ps)
+      → ((p : Passing) → Among p ps → (has p.letters ≡ true) ↔ IsSo p.class.now.shows) → IsNumberOf (IsInSome ps) (orders_with has ps)
+  orders-number low [] each rise tells = number-none (IsInSome []) (λ rank x. x.1)
+  orders-number low (p ∷ ps) each rise tells =
+      at (has p.letters) (tells p (inl refl)) (orders-number (suc p.class.now.first) ps (λ q m. each q (inr m)) rise.1 (λ q m. tells q (inr m)))
     where
       own : IsClassOf kind tables run p.class.now
       own = each p (inl refl)
@@ -49,7 +50,7 @@ module _ (kind : Kind) (tables : List Table) (run : Spec)
           (λ rank x. back rank x.0 x.1 x.2 x.3)
           (number-sum (λ rank. ShowsAt kind tables run rank p.class.now.shows) (IsInSome ps) p.class.now.count (orders_with has ps) own.count rec apart)
         where
-          back : (rank : ℕ) (q : Passing) → Has q (p ∷ ps) → IsSo q.class.now.shows → ShowsAt kind tables run rank q.class.now.shows
+          back : (rank : ℕ) (q : Passing) → Among q (p ∷ ps) → IsSo q.class.now.shows → ShowsAt kind tables run rank q.class.now.shows
               → ShowsAt kind tables run rank p.class.now.shows ⊎ IsInSome ps rank
           back rank q (inl e) so y = inl (subst (λ (x : Passing). ShowsAt kind tables run rank x.class.now.shows) e y)
           back rank q (inr m) so y = inr (q, m, so, y)
@@ -58,7 +59,7 @@ module _ (kind : Kind) (tables : List Table) (run : Spec)
           apart rank y x =
               let q : Passing = x.0 in
               let same : p.class.now.shows ≡ q.class.now.shows = alone rank p.class.now.shows q.class.now.shows y x.3 in
-              let lt : p.class.now.first < q.class.now.first = behind-at p.class.now.first ps q rise.0 x.1 in
+              let lt = behind (λ (z : Passing). z.class.now.first) (suc p.class.now.first) ps q rise.1 x.1 in
               let other = each q (inr x.1) in
               let le : q.class.now.first ≤ p.class.now.first =
               other.first.least p.class.now.first (subst (ShowsAt kind tables run p.class.now.first) same own.first.is_so) in
@@ -67,7 +68,7 @@ module _ (kind : Kind) (tables : List Table) (run : Spec)
           subst (IsNumberOf (IsInSome (p ∷ ps))) (let e : orders_with has ps ≡ 0 + orders_with has ps = omega arith in e)
           (number-same (IsInSome ps) (IsInSome (p ∷ ps)) (orders_with has ps) (λ rank y. (y.0, inr y.1, y.2, y.3)) (λ rank x. back rank x.0 x.1 x.2 x.3) rec)
         where
-          back : (rank : ℕ) (q : Passing) → Has q (p ∷ ps) → IsSo q.class.now.shows → ShowsAt kind tables run rank q.class.now.shows → IsInSome ps rank
+          back : (rank : ℕ) (q : Passing) → Among q (p ∷ ps) → IsSo q.class.now.shows → ShowsAt kind tables run rank q.class.now.shows → IsInSome ps rank
           back rank q (inl e) so y = absurd (let bad : false ≡ true = tell.1 (subst (λ (x : Passing). IsSo x.class.now.shows) e so) in cc)
           back rank q (inr m) so y = (q, m, so, y)
 
@@ -81,31 +82,31 @@ orders-few has (p ∷ ps) = let rec = orders-few has ps in let here = at (has p.
 
 -- ---- the order of rows
 
-rows-rise : (rows : List ClassRow)
-    → ((n m : ℕ) (row other : ClassRow) → n < m → slice_get rows n ≡ Some row → slice_get rows m ≡ Some other → row.least < other.least) → RowsRise rows
-rows-rise [] rise = tt
-rows-rise (row ∷ rows) rise =
-    (later rows (λ m other e. rise 0 (suc m) row other (omega arith) refl e), rows-rise rows (λ n m a b lt e f. rise (suc n) (suc m) a b (omega (arith, lt)) e f))
-  where
-    later : (others : List ClassRow) → ((m : ℕ) (other : ClassRow) → slice_get others m ≡ Some other → row.least < other.least) → AllLater row.least others
-    later [] f = tt
-    later (other ∷ others) f = (f 0 other refl, later others (λ m x e. f (suc m) x e))
+rows-rise : (low : ℕ) (rows : List ClassRow) → ((n : ℕ) (row : ClassRow) → slice_get rows n ≡ Some row → low ≤ row.least)
+    → ((n m : ℕ) (row other : ClassRow) → n < m → slice_get rows n ≡ Some row → slice_get rows m ≡ Some other → row.least < other.least)
+    → RiseFrom low (map (λ (row : ClassRow). row.least) rows)
+rows-rise low [] above rise = tt
+rows-rise low (row ∷ rows) above rise = (
+  above 0 row refl,
+  rows-rise (suc row.least) rows (λ m other e. (let lt = rise 0 (suc m) row other (omega arith) refl e in omega (arith, lt)))
+      (λ n m a b lt e f. rise (suc n) (suc m) a b (omega (arith, lt)) e f),
+)
 
 -- ---- all of it
 
 module _ (kind : Kind) (tables : List Table) (run : Spec) (filters : List Filter) (by : Grouping) (cs : List OrderClass) (are : AreClassesOf kind tables run cs)
     (ps : List Passing) (passing : ArePassing tables run filters cs ps) (added : AreAdded kind tables run ps) where
   -- an order that is asked for is of a class that passes
-  passing-of : (rank : ℕ) (s : Shows) → ShowsAt kind tables run rank s → Passes tables run filters s → (p : Passing) × Has p ps × (p.class.now.shows ≡ s)
+  passing-of : (rank : ℕ) (s : Shows) → ShowsAt kind tables run rank s → Passes tables run filters s → (p : Passing) × Among p ps × (p.class.now.shows ≡ s)
   passing-of rank s shown passes =
       let c = are.all rank s shown in
       let p = passing-all tables run filters cs ps passing c.0 c.1 (subst (Passes tables run filters) (sym c.2) passes) in
       (p.0, p.1, ap (λ (x : OrderClass). x.shows) p.2 ∙ c.2)
 
-  passes-of : (p : Passing) → Has p ps → Passes tables run filters p.class.now.shows
+  passes-of : (p : Passing) → Among p ps → Passes tables run filters p.class.now.shows
   passes-of p m = (passing-each tables run filters cs ps passing p m).1
 
-  letters-of : (p : Passing) → Has p ps → AreLetters tables run p.class.now.shows p.letters
+  letters-of : (p : Passing) → Among p ps → AreLetters tables run p.class.now.shows p.letters
   letters-of p m = (passing-each tables run filters cs ps passing p m).2
 
   letters-one : (s : Shows) (k l : Letters) → AreLetters tables run s k → AreLetters tables run s l → k ≡ l
@@ -167,11 +168,11 @@ module _ (kind : Kind) (tables : List Table) (run : Spec) (filters : List Filter
       → IsTotal kind tables run filters IsSo has rows (total_by has ps rows)
   total-told rows has IsSo is = (
     number-same (IsInSome kind tables run added.alone has IsSo ps) (asked IsSo) (orders_with has ps) (some-asked IsSo) (asked-some IsSo)
-        (orders-number kind tables run added.alone has IsSo ps added.each added.rise tells),
+        (orders-number kind tables run added.alone has IsSo 0 ps added.each added.rise tells),
     refl,
   )
     where
-      tells : (p : Passing) → Has p ps → (has p.letters ≡ true) ↔ IsSo p.class.now.shows
+      tells : (p : Passing) → Among p ps → (has p.letters ≡ true) ↔ IsSo p.class.now.shows
       tells p m =
           let x = letters-of p m in
           subst (λ l. (has l ≡ true) ↔ IsSo p.class.now.shows) (sym x.2) (is p.class.now.shows x.0 x.1)
@@ -200,15 +201,16 @@ module _ (kind : Kind) (tables : List Table) (run : Spec) (filters : List Filter
       not-told [] some = absurd (some refl)
       not-told (l ∷ ls) some = refl
 
-  pub all-told : (keys : List Shows) (x : Classed) → AreRowsOf kind tables run by ps keys x.rows.items → x.totals ≡ totals_by run ps x.rows.items
-      → IsClassed kind tables run filters by x
-  all-told keys x rows totals = record {
+  pub all-told : (keys : List Shows) (x : Classed) → IsNumberOf (λ rank. (s : Shows) × ShowsAt kind tables run rank s) x.orders
+      → AreRowsOf kind tables run by ps keys x.rows.items → x.totals ≡ totals_by run ps x.rows.items → IsClassed kind tables run filters by x
+  all-told keys x orders rows totals = record {
+    orders = orders;
     each = λ row m. (let at = among-at x.rows.items row m in row-told row (rows.each at.0 row at.1));
     all = λ rank s shown passes.
         (let p = passing-of rank s shown passes in
         let r = rows.all p.0 p.1 in
         (r.1, at-among x.rows.items r.0 r.1 r.2, ap (told_by by) (sym p.2) ∙ r.3));
     alone = added.alone;
-    rise = rows-rise x.rows.items rows.rise;
+    rise = rows-rise 0 x.rows.items (λ n row e. omega arith) rows.rise;
     totals = subst (AreTotals kind tables run filters x.rows.items) (sym totals) (totals-told x.rows.items);
   }

@@ -1,5 +1,5 @@
 -- Classes as they are told.
-use Rattle.std.specs.Prelude.{◌≡◌, ◌≢◌, ◌↔◌, ℕ, ◌+◌, ◌<◌, Bool, true, false, cond, List, [], ◌∷◌, Option, Some, None, unwrap_or}
+use Rattle.std.specs.Prelude.{◌≡◌, ◌≢◌, ◌↔◌, ℕ, ◌+◌, Bool, true, false, cond, List, [], ◌∷◌, map, Option, Some, None, unwrap_or}
 use Rattle.lock_queues.specs.Reasons.{Among}
 use Rattle.binding_model.specs.declared.tables.Table.{Table}
 use Rattle.bound_specs.specs.Spec.{Spec}
@@ -16,7 +16,7 @@ use Rattle.order_classes.specs.declared.rows.Grouping.TheVariants as the
 use Rattle.order_classes.specs.declared.letters.Filter.{Filter}
 use Rattle.order_classes.specs.Asked.{Passes}
 use Rattle.order_classes.specs.Letters.{answers_of, letter_w, letter_d, letter_e, letter_n, letter_s, IsR, LetterR}
-use Rattle.order_classes.specs.Numbers.{IsNumberOf, IsLeastOf}
+use Rattle.order_classes.specs.Numbers.{IsNumberOf, IsLeastOf, RiseFrom}
 use Rattle.order_classes.specs.Shows.{shows_of_line}
 use Rattle.class_rows.specs.declared.rows.Classed.{Classed}
 
@@ -40,15 +40,6 @@ has_r l = unwrap_or l.not_serial false
 abbrev pub rows_with : (Letters → Bool) → List ClassRow → ℕ
 rows_with has [] = 0
 rows_with has (row ∷ rows) = cond (has row.letters) 1 0 + rows_with has rows
-
-abbrev pub AllLater : ℕ → List ClassRow → Type 0
-AllLater n [] = Unit {0}
-AllLater n (row ∷ rows) = (n < row.least) × AllLater n rows
-
--- the rows are in the order of their least ranks
-abbrev pub RowsRise : List ClassRow → Type 0
-RowsRise [] = Unit {0}
-RowsRise (row ∷ rows) = AllLater row.least rows × RowsRise rows
 
 module _ (kind : Kind) (tables : List Table) (run : Spec) (filters : List Filter) where
   -- the order of the rank is asked for, as it passes all filters, and what it shows is so
@@ -90,12 +81,14 @@ module _ (kind : Kind) (tables : List Table) (run : Spec) (filters : List Filter
     pub not_serial : run.lines ≡ [] → (r : Total) × (t.not_serial ≡ Some r) × IsTotal (LetterR tables run) has_r rows r
     pub not_told : run.lines ≢ [] → t.not_serial ≡ None
 
-  -- the orders that pass the filters, grouped so: a row of each class, and the totals
+  -- how many orders there are; and those that pass the filters, grouped so: a row of each class, and the totals
   pub record IsClassed (by : Grouping) (x : Classed) : Type 0 where
+    pub orders : IsNumberOf (λ rank. (s : Shows) × ShowsAt kind tables run rank s) x.orders
     pub each : (row : ClassRow) → Among row x.rows.items → IsRow by row
     pub all : (rank : ℕ) (s : Shows) → ShowsAt kind tables run rank s → Passes tables run filters s
         → (row : ClassRow) × Among row x.rows.items × (told_by by s ≡ told_by by row.shows)
     -- a rank shows one thing
     pub alone : (rank : ℕ) (s t : Shows) → ShowsAt kind tables run rank s → ShowsAt kind tables run rank t → s ≡ t
-    pub rise : RowsRise x.rows.items
+    -- the rows are in the order of their least ranks
+    pub rise : RiseFrom 0 (map (λ (row : ClassRow). row.least) x.rows.items)
     pub totals : AreTotals x.rows.items x.totals

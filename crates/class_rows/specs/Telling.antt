@@ -1,6 +1,6 @@
 -- How classes come to be told. No public clause cites this module but for what is given.
-use Rattle.std.specs.Prelude.{◌≡◌, ◌≢◌, ◌↔◌, ℕ, ◌+◌, ◌<◌, ◌≤◌, ◌^◌, ◌⊎◌, Bool, true, ◌||◌, cond, List, [], ◌∷◌, ◌++◌, length, set, slice_get, Option, Some, None}
-use Rattle.path_counts.specs.Paths.{Has}
+use Rattle.std.specs.Prelude.{◌≡◌, ◌≢◌, ◌↔◌, ℕ, ◌+◌, ◌<◌, ◌≤◌, ◌^◌, ◌⊎◌, Bool, true, ◌||◌, cond, List, [], ◌∷◌, ◌++◌, length, map, set, slice_get, Option, Some, None}
+use Rattle.lock_queues.specs.Reasons.{Among}
 use Rattle.binding_model.specs.declared.tables.Table.{Table}
 use Rattle.bound_specs.specs.Spec.{Spec}
 use Rattle.spec_schedules.specs.declared.kind.Kind.{Kind}
@@ -16,7 +16,7 @@ use Rattle.order_classes.specs.declared.rows.Grouping.{Grouping}
 use Rattle.order_classes.specs.declared.letters.Filter.{Filter}
 use Rattle.order_classes.specs.Asked.{Passes}
 use Rattle.order_classes.specs.Shows.{shows_of_line}
-use Rattle.order_classes.specs.Numbers.{IsNumberOf, IsLeastOf}
+use Rattle.order_classes.specs.Numbers.{IsNumberOf, IsLeastOf, RiseFrom}
 use Rattle.different_shows.specs.Different.{HasNumber}
 use Rattle.class_rows.specs.declared.found.FoundOrders.{FoundOrders}
 use Rattle.class_rows.specs.declared.letters.Letter.{Letter}
@@ -73,14 +73,6 @@ ArePassing tables run filters (c ∷ cs) ps =
     × AreLetters tables run c.shows p.letters × ArePassing tables run filters cs rest)
     ⊎ ((Passes tables run filters c.shows → ⊥) × ArePassing tables run filters cs ps)
 
-abbrev pub AllBehind : ℕ → List Passing → Type 0
-AllBehind first [] = Unit {0}
-AllBehind first (p ∷ ps) = (first < p.class.now.first) × AllBehind first ps
-
-abbrev pub FirstsRise : List Passing → Type 0
-FirstsRise [] = Unit {0}
-FirstsRise (p ∷ ps) = AllBehind p.class.now.first ps × FirstsRise ps
-
 -- all their counts
 abbrev pub count_of : List Passing → ℕ
 count_of [] = 0
@@ -88,9 +80,9 @@ count_of (p ∷ ps) = p.class.now.count + count_of ps
 
 -- classes of the orders of a spec, each with its letters, in the order of their first ranks
 pub record AreAdded (kind : Kind) (tables : List Table) (run : Spec) (ps : List Passing) : Type 0 where
-  pub each : (p : Passing) → Has p ps → IsClassOf kind tables run p.class.now
-  pub told : (p : Passing) → Has p ps → (p.letters.not_serial ≡ None) ↔ (run.lines ≢ [])
-  pub rise : FirstsRise ps
+  pub each : (p : Passing) → Among p ps → IsClassOf kind tables run p.class.now
+  pub told : (p : Passing) → Among p ps → (p.letters.not_serial ≡ None) ↔ (run.lines ≢ [])
+  pub rise : RiseFrom 0 (map (λ (p : Passing). p.class.now.first) ps)
   pub alone : (rank : ℕ) (s t : Shows) → ShowsAt kind tables run rank s → ShowsAt kind tables run rank t → s ≡ t
   pub few : count_of ps < 2 ^ 63
 
@@ -103,11 +95,11 @@ module _ (kind : Kind) (tables : List Table) (run : Spec) (by : Grouping) where
 
   -- the rank's order is of one of these classes, and that is told by the row
   abbrev pub IsInRow : List Passing → ClassRow → ℕ → Type 0
-  IsInRow ps row rank = (p : Passing) × Has p ps × IsOf row p × ShowsAt kind tables run rank p.class.now.shows
+  IsInRow ps row rank = (p : Passing) × Among p ps × IsOf row p × ShowsAt kind tables run rank p.class.now.shows
 
   -- a letter is told of the row exactly where one of its classes has it
   abbrev pub IsLettered : List Passing → ClassRow → (Letters → Bool) → Type 0
-  IsLettered ps row has = (has row.letters ≡ true) ↔ ((p : Passing) × Has p ps × IsOf row p × (has p.letters ≡ true))
+  IsLettered ps row has = (has row.letters ≡ true) ↔ ((p : Passing) × Among p ps × IsOf row p × (has p.letters ≡ true))
 
   -- the row tells those of these classes that are told alike
   pub record IsRowOf (ps : List Passing) (row : ClassRow) : Type 0 where
@@ -124,9 +116,9 @@ module _ (kind : Kind) (tables : List Table) (run : Spec) (by : Grouping) where
     pub long : length rows ≡ length keys
     pub keys_are : (n : ℕ) (row : ClassRow) → slice_get rows n ≡ Some row → slice_get keys n ≡ Some (told_by by row.shows)
     pub each : (n : ℕ) (row : ClassRow) → slice_get rows n ≡ Some row → IsRowOf ps row
-    pub all : (p : Passing) → Has p ps → (n : ℕ) × (row : ClassRow) × (slice_get rows n ≡ Some row) × IsOf row p
+    pub all : (p : Passing) → Among p ps → (n : ℕ) × (row : ClassRow) × (slice_get rows n ≡ Some row) × IsOf row p
     pub rise : (n m : ℕ) (row other : ClassRow) → n < m → slice_get rows n ≡ Some row → slice_get rows m ≡ Some other → row.least < other.least
-    pub before : (n : ℕ) (row : ClassRow) → slice_get rows n ≡ Some row → (p : Passing) × Has p ps × (row.least ≡ p.class.now.first)
+    pub before : (n : ℕ) (row : ClassRow) → slice_get rows n ≡ Some row → (p : Passing) × Among p ps × (row.least ≡ p.class.now.first)
 
 -- the row of the first class that is told so
 pub record IsFirst (p : Passing) (row : ClassRow) : Type 0 where

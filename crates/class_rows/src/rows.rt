@@ -16,8 +16,9 @@ use different_shows::Different;
 use order_classes::{ClassRow, Grouping, Shows, Totals, answers_of};
 use std::alloc::{AllocError, Global};
 
-/// Classes as they are told: the totals, and a row for each class in the order of their least ranks.
+/// Classes as they are told: how many orders there are, the totals of those that are asked for, and a row for each class in the order of their least ranks.
 pub struct Classed {
+    pub orders: u64,
     pub totals: Totals,
     pub rows: Vec<ClassRow>,
 }
@@ -26,6 +27,7 @@ pub struct Classed {
 impl Drop for Classed {
     fn drop(self) {
         let Classed {
+            orders: _,
             totals: _,
             rows: _rows,
         } = self;

@@ -1,6 +1,7 @@
 //! How many orders have which letters, and in how many classes.
 
 ghost use Rattle.std.specs.Prelude.{◌≡◌, ◌<◌, ◌^◌, ◌∷◌, []};
+ghost use Rattle.spec_classes.specs.Classes.{total_count};
 ghost use Rattle.class_rows.specs.Pages.{rows_with};
 ghost use Rattle.class_rows.specs.declared.letters.Letter.{Letter as Counted};
 ghost use Rattle.class_rows.specs.Telling.{has_letter, orders_with, total_by, totals_by, unless_lines};
@@ -9,6 +10,19 @@ use crate::letters::Letter;
 use crate::passing::Passing;
 use bound_specs::Spec;
 use order_classes::{ClassRow, Total, Totals};
+use spec_classes::OrderClass;
+
+/// The orders of all classes.
+pub(crate) fn orders_of(classes: &[OrderClass]) -> u64
+    requires { total_count classes.now < 2 ^ 63 }
+    ensures { result ≡ total_count classes.now }
+{
+    let mut orders = 0;
+    for class in classes {
+        orders += class.count;
+    }
+    orders
+}
 
 /// The totals of all letters of these classes, which are told in these rows.
 pub(crate) fn totals_of(spec: &Spec, passing: &[Passing<'_>], rows: &[ClassRow]) -> Totals
@@ -50,13 +64,13 @@ fn orders_with(letter: Letter, passing: &[Passing<'_>]) -> u64
 {
     let mut orders = 0;
     for class in passing {
-        orders += orders_of(letter, *class);
+        orders += counted(letter, *class);
     }
     orders
 }
 
 /// The orders of a class, if it has the letter.
-fn orders_of(letter: Letter, passing: Passing<'_>) -> u64
+fn counted(letter: Letter, passing: Passing<'_>) -> u64
     ensures { result ≡ orders_with (has_letter letter) (passing.entry ∷ []) }
 {
     if letter.is_of(passing.letters) {

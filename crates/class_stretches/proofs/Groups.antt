@@ -5,7 +5,8 @@ use Rattle.std.specs.List.{slice_get}
 use Rattle.std.proofs.lemmas.Bool.{leb-true, ltb-true, le-leb, lt-ltb, and_parts, and_from, or_cases, or_left, or_right, eqb-true, eqb-false}
 use Rattle.std.proofs.lemmas.Option.{slice_get_within}
 use Rattle.lock_queues.specs.Reasons.{Among}
-use Rattle.class_stretches.specs.Classes.{Run, in_run, in_runs, ranks_in, AreApart, Class, IsClass, AllLater, LeastsRise, AreGroups}
+use Rattle.order_classes.specs.Numbers.{RiseFrom}
+use Rattle.class_stretches.specs.Classes.{Run, in_run, in_runs, ranks_in, AreApart, Class, IsClass, AreGroups}
 use Rattle.class_stretches.specs.declared.stretch.Stretch.{Stretch}
 use Rattle.class_stretches.specs.declared.tally.Tally.{Tally}
 use Rattle.class_stretches.specs.Stretches.{class_at, end_from, end_of, same_class, BeginsOther, AreStretches, MayCome, with_class, AreInOrder, Stretched, IsStretched, runs_with, least_of, tally_of, AreTallies}
@@ -222,20 +223,13 @@ module _ {A : Type 0} where
   among-numbered n ss (x ∷ shows) (suc k) a e =
       inr (subst (λ j. Among (class_by ss j a) (classes_from (suc n) ss shows)) (omega arith) (among-numbered (suc n) ss shows k a e))
 
-  leasts-later : (n k m : ℕ) (ss : List Stretch) (shows : List A) → AreStretches 0 ss → AreInOrder 0 ss m → k < n → n + length shows ≤ m
-      → AllLater (least_of (runs_with (Some k) 0 ss)) (classes_from n ss shows)
-  leasts-later n k m ss [] a o lt le = tt
-  leasts-later n k m ss (x ∷ shows) a o lt le = (
-    numbers-rise 0 ss m k n 0 a o (omega arith) lt (omega (arith, le)),
-    leasts-later (suc n) k m ss shows a o (omega (arith, lt)) (omega (arith, le)),
-  )
-
-  leasts-rise : (n m : ℕ) (ss : List Stretch) (shows : List A) → AreStretches 0 ss → AreInOrder 0 ss m → n + length shows ≤ m
-      → LeastsRise (classes_from n ss shows)
-  leasts-rise n m ss [] a o le = tt
-  leasts-rise n m ss (x ∷ shows) a o le = (
-    leasts-later (suc n) n m ss shows a o (omega arith) (omega (arith, le)),
-    leasts-rise (suc n) m ss shows a o (omega (arith, le)),
+  leasts-rise : (low n m : ℕ) (ss : List Stretch) (shows : List A) → AreStretches 0 ss → AreInOrder 0 ss m → n + length shows ≤ m
+      → (n < m → low ≤ least_of (runs_with (Some n) 0 ss)) → RiseFrom low (map (λ (c : Class A). c.least) (classes_from n ss shows))
+  leasts-rise low n m ss [] a o le above = tt
+  leasts-rise low n m ss (x ∷ shows) a o le above = (
+    above (omega (arith, le)),
+    leasts-rise (suc (least_of (runs_with (Some n) 0 ss))) (suc n) m ss shows a o (omega (arith, le))
+        (λ lt. (let less = numbers-rise 0 ss m n (suc n) 0 a o (omega arith) (omega arith) lt in omega (arith, less))),
   )
 
   -- a class by its number is one of the ranks that show what it does
@@ -273,7 +267,7 @@ module _ {A : Type 0} where
         let shown : x.1 ≡ y.1 = sym (ap (λ (z : Class A). z.shows) x.3) ∙ h ∙ ap (λ (z : Class A). z.shows) y.3 in
         let number : x.0 ≡ y.0 = differ x.0 y.0 y.1 (x.2 ∙ ap Some shown) y.2 in
         x.3 ∙ ap (λ k. class_by s.list (0 + k) x.1) number ∙ ap (λ z. class_by s.list (0 + y.0) z) shown ∙ sym y.3);
-    rise = leasts-rise 0 s.classes s.list shows is.stretches is.order (omega (arith, all));
+    rise = leasts-rise 0 0 s.classes s.list shows is.stretches is.order (omega (arith, all)) (λ lt. omega arith);
   }
 
   -- where no rank is missing, each one shows something

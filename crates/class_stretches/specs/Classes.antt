@@ -1,6 +1,7 @@
 -- Classes of ranks by what they show.
-use Rattle.std.specs.Prelude.{◌≡◌, ℕ, suc, ◌+◌, ◌-◌, ◌<◌, ◌≤◌, Bool, true, false, ◌&&◌, ◌||◌, nat_le, nat_lt, List, [], ◌∷◌}
+use Rattle.std.specs.Prelude.{◌≡◌, ℕ, suc, ◌+◌, ◌-◌, ◌<◌, ◌≤◌, Bool, true, false, ◌&&◌, ◌||◌, nat_le, nat_lt, List, [], ◌∷◌, map}
 use Rattle.lock_queues.specs.Reasons.{Among}
+use Rattle.order_classes.specs.Numbers.{RiseFrom}
 
 -- ranks from the first up to but not the end
 pub record Run : Type 0 where
@@ -38,18 +39,9 @@ pub record IsClass {A : Type 0} (show : ℕ → A → Type 0) (first end : ℕ) 
   pub is_least : (r : ℕ) → in_runs c.runs r ≡ true → c.least ≤ r
   pub count : c.count ≡ ranks_in c.runs
 
-abbrev pub AllLater : {A : Type 0} → ℕ → List (Class A) → Type 0
-AllLater n [] = Unit {0}
-AllLater n (c ∷ cs) = (n < c.least) × AllLater n cs
-
--- in the order of their least ranks
-abbrev pub LeastsRise : {A : Type 0} → List (Class A) → Type 0
-LeastsRise [] = Unit {0}
-LeastsRise (c ∷ cs) = AllLater c.least cs × LeastsRise cs
-
--- the classes of those ranks of the range that show something: equal within, all such ranks together, two that show the same are one, in order
+-- the classes of those ranks of the range that show something: equal within, all such ranks together, two that show the same are one, in the order of their least ranks
 pub record AreGroups {A : Type 0} (show : ℕ → A → Type 0) (first end : ℕ) (cs : List (Class A)) : Type 0 where
   pub each : (c : Class A) → Among c cs → IsClass show first end c
   pub together : (r : ℕ) (a : A) → first ≤ r → r < end → show r a → (c : Class A) × Among c cs × (in_runs c.runs r ≡ true)
   pub between : (c d : Class A) → Among c cs → Among d cs → (same : c.shows ≡ d.shows) → c ≡ d
-  pub rise : LeastsRise cs
+  pub rise : RiseFrom 0 (map (λ (c : Class A). c.least) cs)

@@ -2,8 +2,6 @@ mod FlatLemmas
 mod LetterLemmas
 mod MeetLemmas
 mod MissLemmas
-mod NarrowLemmas
 pub mod ShownLemmas
-mod WholeLemmas
 mod Worked
 mod ZipLemmas

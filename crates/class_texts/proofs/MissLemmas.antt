@@ -1,13 +1,9 @@
 -- The first class of which something expected is not so.
-use Rattle.std.proofs.Common.{◌≡◌, ◌↔◌, ◌≢◌, ℕ, zero, suc, ◌+◌, ◌<◌, ◌≤◌, Bool, true, false, cond, List, [], ◌∷◌, ◌++◌, length, get_or, drop, refl, sym, ap, ◌∙◌}
-use Rattle.std.proofs.Common.{add-one, arith, Option, Some}
+use Rattle.std.proofs.Common.{◌≡◌, ℕ, zero, suc, ◌+◌, ◌<◌, Bool, true, false, cond, List, [], ◌∷◌, length, get_or, drop, refl, sym, ap, ◌∙◌}
+use Rattle.std.proofs.Common.{add-one, arith, Option, Some, None}
 use Rattle.order_classes.specs.declared.rows.ClassRow.{ClassRow}
-use Rattle.shown_texts.specs.Characters.{blanks}
-use Rattle.shown_texts.specs.Breaking.{broken, filled, fits, pieces}
-use Rattle.class_texts.specs.Beneath.{events_lines}
-use Rattle.events.specs.declared.event.Event.{Event}
-use Rattle.class_texts.specs.Expected.{Expectation, first_miss, is_met_at, met_from, miss_from, miss_lines, miss_of, miss_text}
-use Rattle.class_texts.specs.Laws.{HaveOrders, orders_of}
+use Rattle.class_texts.specs.Expected.{Expectation, first_miss, is_met_at, met_from, missed_from}
+use Rattle.class_texts.specs.Laws.{AreMissesTold, HaveOrders, orders_of}
 
 first-left : (rows : List ClassRow) (k : ℕ) → k < length rows → (row : ClassRow) × (drop k rows ≡ row ∷ drop (suc k) rows)
 first-left [] k lt = absurd (omega (arith, lt))
@@ -24,64 +20,41 @@ miss-next e k rows t lt is so =
 
 -- ---- it is told
 
-module _ {A : Type 0} where
-  cons-some : (x : A) (xs : List A) → x ∷ xs ≡ [] → ⊥
-  cons-some x xs e = let f : x ∷ xs ≡ [] = e in cc
+both-by : (b : Bool) (count met missed orders : ℕ) → met + missed ≡ orders → cond b count 0 + met + (cond b 0 count + missed) ≡ count + orders
+both-by true count met missed orders e = omega (arith, e)
+both-by false count met missed orders e = omega (arith, e)
 
-  append-some : (xs ys : List A) → (xs ≡ [] → ⊥) → xs ++ ys ≡ [] → ⊥
-  append-some [] ys some e = some refl
-  append-some (x ∷ xs) ys some e = cons-some x (xs ++ ys) e
+-- of each order it holds or not
+both : (e : Expectation) (k : ℕ) (rows : List ClassRow) → met_from e k rows + missed_from e k rows ≡ orders_of rows
+both e k [] = refl
+both e k (row ∷ rows) =
+    both-by (is_met_at e k) row.count (met_from e (k + 1) rows) (missed_from e (k + 1) rows) (orders_of rows) (both e (k + 1) rows)
 
-  either-some : (b : Bool) (xs : List A) (y : A) (ys : List A) → (xs ≡ [] → ⊥) → cond b xs (y ∷ ys) ≡ [] → ⊥
-  either-some true xs y ys some e = some e
-  either-some false xs y ys some e = cons-some y ys e
+some-miss : {A : Type 0} (b : Bool) (rest : Option A) (here : A) → cond b rest (Some here) ≡ None → (b ≡ true) × (rest ≡ None)
+some-miss true rest here e = (refl, e)
+some-miss false rest here e = absurd (let f : Some here ≡ None = e in cc)
 
-filled-some : (width margin : ℕ) (line : List ℕ) (ps : List (List ℕ)) → filled width margin line ps ≡ [] → ⊥
-filled-some width margin line [] e = cons-some line [] e
-filled-some width margin line (p ∷ ps) e =
-    either-some (fits width line p) (filled width margin (line ++ p) ps) line (filled width margin (blanks margin ++ p) ps)
-    (λ h. filled-some width margin (line ++ p) ps h) e
+no-miss-by : {A : Type 0} (b : Bool) (count missed : ℕ) (rest : Option A) (here : A) → 0 < count → (missed ≡ 0 → rest ≡ None)
+    → cond b 0 count + missed ≡ 0 → cond b rest (Some here) ≡ None
+no-miss-by true count missed rest here some more e = more (omega (arith, e))
+no-miss-by false count missed rest here some more e = absurd (omega (arith, some, e))
 
--- a class of which it is not so has a line
-miss-some : (steps : List (List ℕ)) (e : Expectation) (k : ℕ) (row : ClassRow) → miss_lines steps row (get_or e.seen k []) ≡ [] → ⊥
-miss-some steps e k row =
-    append-some (broken 80 2 4 (miss_text steps row)) (events_lines 4 steps (get_or e.seen k []))
-    (filled-some 80 4 (blanks 2) (pieces 76 [] (miss_text steps row)))
+-- no class is told where there is no order of which it does not hold
+no-miss : (e : Expectation) (k : ℕ) (rows : List ClassRow) → HaveOrders rows → missed_from e k rows ≡ 0 → first_miss e k rows ≡ None
+no-miss e k [] all is = refl
+no-miss e k (row ∷ rows) all is =
+    no-miss-by (is_met_at e k) row.count (missed_from e (k + 1) rows) (first_miss e (k + 1) rows) (row, get_or e.seen k []) all.0
+    (λ h. no-miss e (k + 1) rows all.1 h) is
 
--- of no more orders is it so than there are
-met-by : (b : Bool) (count met orders : ℕ) → met ≤ orders → cond b count 0 + met ≤ count + orders
-met-by true count met orders le = omega (arith, le)
-met-by false count met orders le = omega (arith, le)
+none-by : (b : Bool) (count missed : ℕ) → b ≡ true → missed ≡ 0 → cond b 0 count + missed ≡ 0
+none-by true count missed is e = omega (arith, e)
+none-by false count missed is e = absurd (let f : false ≡ true = is in cc)
 
-met-most : (e : Expectation) (k : ℕ) (rows : List ClassRow) → met_from e k rows ≤ orders_of rows
-met-most e k [] = omega arith
-met-most e k (row ∷ rows) = met-by (is_met_at e k) row.count (met_from e (k + 1) rows) (orders_of rows) (met-most e (k + 1) rows)
+none-missed : (e : Expectation) (k : ℕ) (rows : List ClassRow) → first_miss e k rows ≡ None → missed_from e k rows ≡ 0
+none-missed e k [] is = refl
+none-missed e k (row ∷ rows) is =
+    let p = some-miss (is_met_at e k) (first_miss e (k + 1) rows) (row, get_or e.seen k []) is in
+    none-by (is_met_at e k) row.count (missed_from e (k + 1) rows) p.0 (none-missed e (k + 1) rows p.1)
 
-told-by : (steps : List (List ℕ)) (b : Bool) (count met orders : ℕ) (rest : Option (ClassRow × List Event)) (here : ClassRow × List Event)
-    → (met < orders → miss_of steps rest ≡ [] → ⊥) → (miss_of steps (Some here) ≡ [] → ⊥)
-    → cond b count 0 + met < count + orders → miss_of steps (cond b rest (Some here)) ≡ [] → ⊥
-told-by steps true count met orders rest here more some lt = more (omega (arith, lt))
-told-by steps false count met orders rest here more some lt = some
-
-told : (steps : List (List ℕ)) (e : Expectation) (k : ℕ) (rows : List ClassRow) → met_from e k rows < orders_of rows → miss_from steps e k rows ≡ [] → ⊥
-told steps e k [] lt is = omega (arith, lt)
-told steps e k (row ∷ rows) lt is =
-    told-by steps (is_met_at e k) row.count (met_from e (k + 1) rows) (orders_of rows) (first_miss e (k + 1) rows)
-    (row, get_or e.seen k []) (λ h n. told steps e (k + 1) rows h n) (miss-some steps e k row) lt is
-
-fewer-by : (steps : List (List ℕ)) (b : Bool) (count met orders : ℕ) (rest : Option (ClassRow × List Event)) (here : ClassRow × List Event)
-    → 0 < count → met ≤ orders → ((miss_of steps rest ≡ [] → ⊥) → met < orders) → (miss_of steps (cond b rest (Some here)) ≡ [] → ⊥)
-    → cond b count 0 + met < count + orders
-fewer-by steps true count met orders rest here some most more n = let lt = more n in omega (arith, lt)
-fewer-by steps false count met orders rest here some most more n = omega (arith, some, most)
-
-fewer : (steps : List (List ℕ)) (e : Expectation) (k : ℕ) (rows : List ClassRow) → HaveOrders rows → (miss_from steps e k rows ≡ [] → ⊥)
-    → met_from e k rows < orders_of rows
-fewer steps e k [] all n = absurd (n refl)
-fewer steps e k (row ∷ rows) all n =
-    fewer-by steps (is_met_at e k) row.count (met_from e (k + 1) rows) (orders_of rows) (first_miss e (k + 1) rows)
-    (row, get_or e.seen k []) all.0 (met-most e (k + 1) rows) (λ m. fewer steps e (k + 1) rows all.1 m) n
-
-pub misses-told : (steps : List (List ℕ)) (e : Expectation) (rows : List ClassRow) → HaveOrders rows
-    → (met_from e 0 rows < orders_of rows) ↔ (miss_from steps e 0 rows ≢ [])
-misses-told steps e rows all = (λ lt. told steps e 0 rows lt, λ n. fewer steps e 0 rows all n)
+pub misses-told : (e : Expectation) (rows : List ClassRow) → AreMissesTold e rows
+misses-told e rows = record { orders = both e 0 rows; told = λ all. (λ is. no-miss e 0 rows all is, λ is. none-missed e 0 rows is) }

@@ -6,7 +6,6 @@ use Rattle.std.specs.Char.{encode_utf8}
 use Rattle.lock_modes.specs.declared.value.Value.{Value}
 use Rattle.lock_modes.specs.declared.value.Value.TheVariants.{Int, Text}
 use Rattle.binding_model.specs.declared.tables.Table.{Table}
-use Rattle.class_stretches.specs.declared.rank_run.RankRun.{RankRun}
 use Rattle.events.specs.declared.event.Fault.TheVariants.{Deadlock, Duplicate, OutOfRange}
 use Rattle.events.specs.declared.event.Event.{Event}
 use Rattle.events.specs.declared.event.Event.TheVariants as event
@@ -15,17 +14,22 @@ use Rattle.order_classes.specs.declared.rows.Letters.{Letters}
 use Rattle.order_classes.specs.declared.rows.Total.{Total}
 use Rattle.order_classes.specs.declared.shows.Rest.{Rest}
 use Rattle.order_classes.specs.declared.shows.Rest.TheVariants.{HasEnded, IsOpen, HasFailed, StillWaits}
-use Rattle.class_texts.specs.Beneath.{left_lines, ranks_lines}
+use Rattle.class_texts.specs.Beneath.{left_lines, margin, seen_text}
+use Rattle.class_texts.specs.Counted.{number_text}
 use Rattle.class_texts.specs.Expected.{expected_lines, meets}
-use Rattle.class_texts.specs.Orders.{order_lines, step_word, step_words}
+use Rattle.class_texts.specs.Orders.{step_word, step_words}
 use Rattle.class_texts.specs.Pages.{Page, missing_text, page_bytes, share_text}
 use Rattle.class_texts.specs.declared.kind.ClassKind.TheVariants.{Shows, Answers, Outcomes}
 
--- ---- shares
+-- ---- numbers
 
--- cut off, and one tenth at least where there is something
-shares : share_text 6 1 ∷ share_text 34650 1 ∷ share_text 34650 0 ∷ share_text 34650 34644 ∷ share_text 6 6 ∷ share_text 0 0 ∷ []
-    ≡ codes "16.6" ∷ codes "0.1" ∷ codes "0" ∷ codes "99.9" ∷ codes "100.0" ∷ codes "0" ∷ []
+numbers : map number_text (0 ∷ 999 ∷ 1000 ∷ 63063000 ∷ 1204118 ∷ []) ≡ codes "0" ∷ codes "999" ∷ codes "1,000" ∷ codes "63,063,000" ∷ codes "1,204,118" ∷ []
+unfolding digits
+numbers = refl
+
+-- a half is rounded up, and what is there and rounds to nothing is told
+shares : share_text 6 1 ∷ share_text 12 10 ∷ share_text 2000 1 ∷ share_text 2001 1 ∷ share_text 34650 0 ∷ share_text 6 6 ∷ share_text 0 0 ∷ []
+    ≡ codes "16.7%" ∷ codes "83.3%" ∷ codes "0.1%" ∷ codes "<0.1%" ∷ codes "0.0%" ∷ codes "100.0%" ∷ codes "0.0%" ∷ []
 unfolding digits
 shares = refl
 
@@ -60,12 +64,6 @@ turns : step_words names again (0 ∷ 1 ∷ 0 ∷ 0 ∷ []) 0 (0 ∷ 1 ∷ 0 ∷
 unfolding chars
 turns = refl
 
--- a step goes on beneath the first one where column 80 is passed, and stands alone where it is too wide
-lines : order_lines names told (codes "front  ") (0 ∷ 4 ∷ 5 ∷ 4 ∷ 5 ∷ [])
-    ≡ codes "front  a1 \"take the first of all\"! take_the_very_last_of_t~:" ∷ codes "       \"take the first of all\" take_the_very_last_of_t~" ∷ []
-unfolding chars
-lines = refl
-
 -- ---- a page of a spec without blocks
 
 abbrev total : ℕ → ℕ → Total
@@ -88,12 +86,15 @@ abbrev without_blocks : Page
 without_blocks = record {
   path = codes "lost_update_without_blocks.spec";
   orders = 6;
+  all_orders = false;
   sessions = codes "a" ∷ codes "b" ∷ [];
   steps = codes "a1" ∷ codes "a2" ∷ codes "b1" ∷ codes "b2" ∷ [];
   tables = [];
   by = Shows;
   is_filtered = false;
+  filters = [];
   missing = None;
+  level_lines = [];
   expectations = [];
   totals = record {
     all = total 6 3;
@@ -118,41 +119,97 @@ abbrev line : List ℕ → List ℕ
 line text = text ++ codes "\n"
 
 without_blocks_page : page_bytes without_blocks ≡ flat_map line (
-    codes "lost_update_without_blocks.spec: 6 orders, 3 classes"
+    codes "lost_update_without_blocks.spec: 6 orders in 3 classes"
     ∷ codes ""
-    ∷ codes "       orders  share %  classes"
-    ∷ codes "    W       0        0        0  a session waits"
-    ∷ codes "    D       0        0        0  a session loses a deadlock"
-    ∷ codes "    E       0        0        0  another error of its own"
-    ∷ codes "    N       0        0        0  a step is not sent, since its session waits"
-    ∷ codes "    S       0        0        0  a session still waits at the end"
-    ∷ codes "    R       4     66.6        1  anomaly: no serial order gives this result"
+    ∷ codes "      orders  share  classes"
+    ∷ codes "  W        0   0.0%        0  a session waits"
+    ∷ codes "  D        0   0.0%        0  a session is the victim of a deadlock"
+    ∷ codes "  E        0   0.0%        0  another error"
+    ∷ codes "  S        0   0.0%        0  a session waits for ever"
+    ∷ codes "  R        4  66.7%        1  anomaly: no error, yet no serial order gives this result"
     ∷ codes ""
-    ∷ codes "class  orders  share %  shows   rank  order"
-    ∷ codes "    1       1     16.6  ------     0  a1 a2 b1 b2"
-    ∷ codes "    2       4     66.6  -----R     1  a1 b1 a2 b2"
-    ∷ codes "    3       1     16.6  ------     5  b1 b2 a1 a2"
-    ∷ codes ""
-    ∷ codes "the order of the least rank, with marks: : waits   ! fails   - is not sent" ∷ [])
-unfolding chars digits encode_utf8
+    ∷ codes "class  orders  share  WDESR  rank  first order"
+    ∷ codes "    1       1  16.7%  .....     0  a1 a2 b1 b2"
+    ∷ codes "    2       4  66.7%  ....R     1  a1 b1 a2 b2"
+    ∷ codes "    3       1  16.7%  .....     5  b1 b2 a1 a2" ∷ [])
+unfolding chars digits encode_utf8 margin
 without_blocks_page = refl
 
--- ---- a page with filters, by answers, of a spec with permutation lines, and with outcomes
+-- ---- all permutations, by filters, of a spec with levels, with what a session is told
 
 abbrev losing : Letters
-losing = record { waits = true; deadlock = true; error = false; unsent = true; stuck = true; not_serial = None }
+losing = record { waits = true; deadlock = true; error = false; unsent = true; stuck = true; not_serial = Some false }
+
+abbrev of_all : Page
+of_all = record without_blocks {
+  path = codes "levels.spec";
+  orders = 1204118;
+  all_orders = true;
+  steps = codes "a1" ∷ codes "a2" ∷ codes "a3" ∷ codes "b1" ∷ codes "b2" ∷ codes "b3" ∷ [];
+  is_filtered = true;
+  filters = codes "--deadlock=a --no-error";
+  level_lines = 8 ∷ 14 ∷ [];
+  totals = record {
+    all = total 12000 1;
+    waits = total 12000 1;
+    deadlock = total 12000 1;
+    error = total 0 0;
+    unsent = total 12000 1;
+    stuck = total 12000 1;
+    not_serial = Some (total 0 0);
+  };
+  rows = row 1204 12000 losing (0 ∷ 3 ∷ 1 ∷ 2 ∷ 4 ∷ 5 ∷ []) told ∷ [];
+  with_outcomes = true;
+}
+
+of_all_page : page_bytes of_all ≡ flat_map line (
+    codes "levels.spec: 12,000 of 1,204,118 orders in 1 class (all permutations; 12,000 contain a step that is not sent; --deadlock=a --no-error)"
+    ∷ codes "locking: strict two-phase locking; isolation levels (lines 8, 14) have no effect"
+    ∷ codes ""
+    ∷ codes "      orders   share  classes"
+    ∷ codes "  W   12,000  100.0%        1  a session waits"
+    ∷ codes "  D   12,000  100.0%        1  a session is the victim of a deadlock"
+    ∷ codes "  E        0    0.0%        0  another error"
+    ∷ codes "  N   12,000  100.0%        1  a step is not sent: its session waits"
+    ∷ codes "  S   12,000  100.0%        1  a session waits for ever"
+    ∷ codes "  R        0    0.0%        0  anomaly: no error, yet no serial order gives this result"
+    ∷ codes ""
+    ∷ codes "class  orders   share  WDENSR  rank  first order"
+    ∷ codes "    1  12,000  100.0%  WD.NS.  1204  a1 b1 a2:! a3- b2! b3:"
+    ∷ codes "          session a"
+    ∷ codes "            step a1"
+    ∷ codes "            updated 1"
+    ∷ codes "            done"
+    ∷ codes "            step a2"
+    ∷ codes "            waiting"
+    ∷ codes "            not sent a3"
+    ∷ codes "            resumed"
+    ∷ codes "            error: deadlock"
+    ∷ codes "            done"
+    ∷ codes "          session b"
+    ∷ codes "            step b1"
+    ∷ codes "            done"
+    ∷ codes "            step b2"
+    ∷ codes "            error: duplicate key"
+    ∷ codes "            done"
+    ∷ codes "            step b3"
+    ∷ codes "            rolled back"
+    ∷ codes "            waiting"
+    ∷ codes ""
+    ∷ codes "a2: waits   a2! fails   a3- is not sent" ∷ [])
+unfolding chars digits encode_utf8 margin
+of_all_page = refl
+
+-- ---- results, of a spec with permutation lines
 
 abbrev lined : Page
-lined = record {
+lined = record of_all {
   path = codes "lines.spec";
   orders = 1;
-  sessions = codes "a" ∷ codes "b" ∷ [];
-  steps = codes "a1" ∷ codes "a2" ∷ codes "a3" ∷ codes "b1" ∷ codes "b2" ∷ codes "b3" ∷ [];
-  tables = [];
   by = Answers;
-  is_filtered = true;
-  missing = None;
-  expectations = [];
+  filters = [];
+  is_filtered = false;
+  level_lines = 3 ∷ [];
   totals = record {
     all = total 1 1;
     waits = total 1 1;
@@ -163,70 +220,42 @@ lined = record {
     not_serial = None;
   };
   rows = row 0 1 losing (0 ∷ 3 ∷ 1 ∷ 2 ∷ 4 ∷ 5 ∷ []) told ∷ [];
-  is_brief = false;
-  with_ranks = false;
-  ranks = [];
-  with_outcomes = true;
-  with_left = false;
-  looks = [];
+  with_outcomes = false;
 }
 
 lined_page : page_bytes lined ≡ flat_map line (
-    codes "lines.spec: 1 of 1 order, 1 answer"
+    codes "lines.spec: 1 order in 1 result (1 contains a step that is not sent)"
+    ∷ codes "locking: strict two-phase locking; isolation level (line 3) has no effect"
     ∷ codes ""
-    ∷ codes "       orders  share %  answers"
-    ∷ codes "    D       1    100.0        1  a session loses a deadlock"
-    ∷ codes "    E       0        0        0  another error of its own"
-    ∷ codes "    S       1    100.0        1  a session still waits at the end"
-    ∷ codes "    R       -        -        -  anomaly: no serial order gives this result"
+    ∷ codes "      orders   share  results"
+    ∷ codes "  D        1  100.0%        1  a session is the victim of a deadlock"
+    ∷ codes "  E        0    0.0%        0  another error"
+    ∷ codes "  S        1  100.0%        1  a session waits for ever"
+    ∷ codes "  R        -       -        -  anomaly: not known for permutation lines"
     ∷ codes ""
-    ∷ codes "answer  orders  share %  shows  rank  order"
-    ∷ codes "     1       1    100.0  D-S-      0  a1 b1 a2:! a3- b2! b3:"
+    ∷ codes "result  orders   share  DESR  rank  first order"
+    ∷ codes "     1       1  100.0%  D.S.     0  a1 b1 a2:! a3- b2! b3:"
     ∷ codes ""
-    ∷ codes "session a"
-    ∷ codes "  step a1"
-    ∷ codes "  updated 1"
-    ∷ codes "  done"
-    ∷ codes "  step a2"
-    ∷ codes "  waiting"
-    ∷ codes "  not sent a3"
-    ∷ codes "  resumed"
-    ∷ codes "  error: deadlock"
-    ∷ codes "  done"
-    ∷ codes "session b"
-    ∷ codes "  step b1"
-    ∷ codes "  done"
-    ∷ codes "  step b2"
-    ∷ codes "  error: duplicate key"
-    ∷ codes "  done"
-    ∷ codes "  step b3"
-    ∷ codes "  rolled back"
-    ∷ codes "  waiting"
-    ∷ codes ""
-    ∷ codes "the order of the least rank, with marks: : waits   ! fails   - is not sent" ∷ [])
-unfolding chars digits encode_utf8
+    ∷ codes "a2: waits   a2! fails   a3- is not sent" ∷ [])
+unfolding chars digits encode_utf8 margin
 lined_page = refl
 
 -- the totals alone, and a spec of which no order is asked for
-abbrev top : List (List ℕ) → List ℕ
-top title =
-    flat_map line (
-    title
-    ++ (codes ""
-    ∷ codes "       orders  share %  classes"
-    ∷ codes "    W       0        0        0  a session waits"
-    ∷ codes "    D       0        0        0  a session loses a deadlock"
-    ∷ codes "    E       0        0        0  another error of its own"
-    ∷ codes "    N       0        0        0  a step is not sent, since its session waits"
-    ∷ codes "    S       0        0        0  a session still waits at the end" ∷ []))
-
-brief_page : page_bytes (record without_blocks { is_brief = true })
-    ≡ top (codes "lost_update_without_blocks.spec: 6 orders, 3 classes" ∷ []) ++ line (codes "    R       4     66.6        1  anomaly: no serial order gives this result")
-unfolding chars digits encode_utf8
+brief_page : page_bytes (record without_blocks { is_brief = true }) ≡ flat_map line (
+    codes "lost_update_without_blocks.spec: 6 orders in 3 classes"
+    ∷ codes ""
+    ∷ codes "      orders  share  classes"
+    ∷ codes "  W        0   0.0%        0  a session waits"
+    ∷ codes "  D        0   0.0%        0  a session is the victim of a deadlock"
+    ∷ codes "  E        0   0.0%        0  another error"
+    ∷ codes "  S        0   0.0%        0  a session waits for ever"
+    ∷ codes "  R        4  66.7%        1  anomaly: no error, yet no serial order gives this result" ∷ [])
+unfolding chars digits encode_utf8 margin
 brief_page = refl
 
 empty_page : page_bytes (record without_blocks {
   is_filtered = true;
+  filters = codes "--stuck";
   rows = [];
   totals = record {
     all = total 0 0;
@@ -237,12 +266,19 @@ empty_page : page_bytes (record without_blocks {
     stuck = total 0 0;
     not_serial = Some (total 0 0);
   };
-})
-    ≡ top (codes "lost_update_without_blocks.spec: 0 of 6 orders, 0 classes" ∷ []) ++ line (codes "    R       0        0        0  anomaly: no serial order gives this result")
-unfolding chars digits encode_utf8
+}) ≡ flat_map line (
+    codes "lost_update_without_blocks.spec: 0 of 6 orders in 0 classes (--stuck)"
+    ∷ codes ""
+    ∷ codes "      orders  share  classes"
+    ∷ codes "  W        0   0.0%        0  a session waits"
+    ∷ codes "  D        0   0.0%        0  a session is the victim of a deadlock"
+    ∷ codes "  E        0   0.0%        0  another error"
+    ∷ codes "  S        0   0.0%        0  a session waits for ever"
+    ∷ codes "  R        0   0.0%        0  anomaly: no error, yet no serial order gives this result" ∷ [])
+unfolding chars digits encode_utf8 margin
 empty_page = refl
 
--- ---- a page of books, which have nothing of one order
+-- ---- books
 
 abbrev of_books : Page
 of_books = record without_blocks {
@@ -260,47 +296,34 @@ of_books = record without_blocks {
     not_serial = None;
   };
   rows = row 0 3 nothing (0 ∷ 1 ∷ 2 ∷ 3 ∷ []) two_each ∷ row 1 2 nothing (0 ∷ 2 ∷ 1 ∷ 3 ∷ []) two_each ∷ [];
+  with_ranks = true;
+  ranks = (record { first = 0; end = 1 } ∷ record { first = 2; end = 4 } ∷ []) ∷ (record { first = 1; end = 2 } ∷ record { first = 5; end = 6 } ∷ []) ∷ [];
 }
 
 books_page : page_bytes of_books ≡ flat_map line (
-    codes "2 books: 5 of 6 orders, 2 outcomes"
+    codes "2 books: 5 of 6 orders in 2 classes; 1 order is missing, rank 4"
+    ∷ codes "Books have no final rows: S and R are not known."
     ∷ codes ""
-    ∷ codes "what orders leave is in no book, so S and R are not told"
-    ∷ codes "1 order is missing, of rank 4"
+    ∷ codes "      orders  share  classes"
+    ∷ codes "  W        0   0.0%        0  a session waits"
+    ∷ codes "  D        0   0.0%        0  a session is the victim of a deadlock"
+    ∷ codes "  E        0   0.0%        0  another error"
+    ∷ codes "  N        0   0.0%        0  a step is not sent: its session waits"
     ∷ codes ""
-    ∷ codes "       orders  share %  outcomes"
-    ∷ codes "    W       0        0         0  a session waits"
-    ∷ codes "    D       0        0         0  a session loses a deadlock"
-    ∷ codes "    E       0        0         0  another error of its own"
-    ∷ codes "    N       0        0         0  a step is not sent, since its session waits"
-    ∷ codes ""
-    ∷ codes "outcome  orders  share %  shows  rank  order"
-    ∷ codes "      1       3     50.0  ----      0  a1 a2 b1 b2"
-    ∷ codes "      2       2     33.3  ----      1  a1 b1 a2 b2"
-    ∷ codes ""
-    ∷ codes "the order of the least rank, with marks: : waits   ! fails   - is not sent" ∷ [])
-unfolding chars digits encode_utf8
+    ∷ codes "class  orders  share  WDEN  rank  first order"
+    ∷ codes "    1       3  60.0%  ....     0  a1 a2 b1 b2"
+    ∷ codes "          ranks 0 2-3"
+    ∷ codes "    2       2  40.0%  ....     1  a1 b1 a2 b2"
+    ∷ codes "          ranks 1 5" ∷ [])
+unfolding chars digits encode_utf8 margin
 books_page = refl
 
-missing_texts : missing_text None ∷ missing_text (Some (record { ranks = 20; first = 3 })) ∷ []
-    ≡ codes "no order is missing" ∷ codes "20 orders are missing, the first of rank 3" ∷ []
+missing_texts : missing_text None ∷ missing_text (Some (record { ranks = 2000; first = 3 })) ∷ []
+    ≡ codes "" ∷ codes "; 2,000 orders are missing, the first of rank 3" ∷ []
 unfolding digits
 missing_texts = refl
 
--- ---- ranks, and what is left
-
-abbrev run : ℕ → ℕ → RankRun
-run first end = record { first = first; end = end }
-
--- a range of one rank, of two and of more; and where column 80 is passed the next one goes on behind six blanks
-ranges : ranks_lines (run 0 1 ∷ run 2 4 ∷ run 7 12 ∷ []) ≡ codes "ranks 0 2-3 7-11" ∷ []
-unfolding digits
-ranges = refl
-
-more_ranges : ranks_lines (run 1000000000 2000000001 ∷ run 2100000000 2100000001 ∷ run 2200000000 2300000001 ∷ run 2400000000 2500000001 ∷ run 2600000000 2600000003 ∷ [])
-    ≡ codes "ranks 1000000000-2000000000 2100000000 2200000000-2300000000 " ∷ codes "      2400000000-2500000000 2600000000-2600000002" ∷ []
-unfolding digits
-more_ranges = refl
+-- ---- final rows, and what is expected
 
 abbrev table : List ℕ → Table
 table name = record { name = name; columns = []; key = None }
@@ -315,76 +338,8 @@ row_with least count letters line n rests = record {
   count = count;
   letters = letters;
   line = record { items = line };
-  shows = record { told = two_each; left = (entry (Int (pos 1) ∷ Int (pos n) ∷ []) ∷ []) ∷ [] ∷ []; rests = rests };
+  shows = record { told = two_each; left = (entry (Int (pos 1) ∷ Int (pos n) ∷ []) ∷ entry (Int (pos 2) ∷ Int (pos 7) ∷ []) ∷ []) ∷ [] ∷ []; rests = rests };
 }
-
-abbrev with_left : Page
-with_left = record without_blocks {
-  tables = table (codes "counter") ∷ table (codes "log") ∷ [];
-  rows =
-      row_with 0 1 nothing (0 ∷ 1 ∷ 2 ∷ 3 ∷ []) 2 (HasEnded ∷ HasEnded ∷ [])
-      ∷ row_with 1 4 not_serial (0 ∷ 2 ∷ 1 ∷ 3 ∷ []) 1 (IsOpen ∷ HasEnded ∷ [])
-      ∷ row_with 5 1 nothing (2 ∷ 3 ∷ 0 ∷ 1 ∷ []) 2 (HasFailed ∷ StillWaits ∷ [])
-      ∷ [];
-  with_ranks = true;
-  ranks = (run 0 1 ∷ []) ∷ (run 1 5 ∷ []) ∷ (run 5 6 ∷ []) ∷ [];
-  with_left = true;
-}
-
-abbrev totals_without_blocks : List (List ℕ)
-totals_without_blocks =
-    codes ""
-    ∷ codes "       orders  share %  classes"
-    ∷ codes "    W       0        0        0  a session waits"
-    ∷ codes "    D       0        0        0  a session loses a deadlock"
-    ∷ codes "    E       0        0        0  another error of its own"
-    ∷ codes "    N       0        0        0  a step is not sent, since its session waits"
-    ∷ codes "    S       0        0        0  a session still waits at the end"
-    ∷ codes "    R       4     66.6        1  anomaly: no serial order gives this result" ∷ []
-
-with_left_page : page_bytes with_left ≡ flat_map line (
-    codes "lost_update_without_blocks.spec: 6 orders, 3 classes"
-    ∷ totals_without_blocks
-    ++ (codes ""
-    ∷ codes "class  orders  share %  shows   rank  order"
-    ∷ codes "    1       1     16.6  ------     0  a1 a2 b1 b2"
-    ∷ codes ""
-    ∷ codes "ranks 0"
-    ∷ codes "left in counter"
-    ∷ codes "  1|2"
-    ∷ codes "left in log"
-    ∷ codes "  nothing"
-    ∷ codes ""
-    ∷ codes "    2       4     66.6  -----R     1  a1 b1 a2 b2"
-    ∷ codes ""
-    ∷ codes "ranks 1-4"
-    ∷ codes "left in counter"
-    ∷ codes "  1|1"
-    ∷ codes "left in log"
-    ∷ codes "  nothing"
-    ∷ codes "a is in a transaction"
-    ∷ codes ""
-    ∷ codes "    3       1     16.6  ------     5  b1 b2 a1 a2"
-    ∷ codes ""
-    ∷ codes "ranks 5"
-    ∷ codes "left in counter"
-    ∷ codes "  1|2"
-    ∷ codes "left in log"
-    ∷ codes "  nothing"
-    ∷ codes "a is in a failed block"
-    ∷ codes "b waits"
-    ∷ codes ""
-    ∷ codes "the order of the least rank, with marks: : waits   ! fails   - is not sent" ∷ []))
-unfolding chars digits encode_utf8
-with_left_page = refl
-
--- by answers how sessions stand is not told
-left_answers : left_lines Answers (table (codes "log") ∷ []) (codes "a" ∷ []) (record { told = []; left = [] ∷ []; rests = IsOpen ∷ [] })
-    ≡ codes "left in log" ∷ codes "  nothing" ∷ []
-unfolding chars
-left_answers = refl
-
--- ---- a look, and what is expected
 
 abbrev select_n : List ℕ
 select_n = codes "SELECT n FROM counter"
@@ -393,44 +348,63 @@ abbrev one_row : ℕ → List Event
 one_row n = event.Row (Int (pos n) ∷ []) ∷ event.Rows 1 ∷ []
 
 -- two classes leave 2, and the one between them 1
-abbrev expecting : Page
-expecting = record without_blocks {
+abbrev with_left : Page
+with_left = record without_blocks {
+  tables = table (codes "counter") ∷ table (codes "log") ∷ [];
+  rows =
+      row_with 0 1 nothing (0 ∷ 1 ∷ 2 ∷ 3 ∷ []) 2 (HasEnded ∷ HasEnded ∷ [])
+      ∷ row_with 1 4 not_serial (0 ∷ 2 ∷ 1 ∷ 3 ∷ []) 1 (IsOpen ∷ HasEnded ∷ [])
+      ∷ row_with 5 1 nothing (2 ∷ 3 ∷ 0 ∷ 1 ∷ []) 2 (HasFailed ∷ StillWaits ∷ [])
+      ∷ [];
+  with_left = true;
   expectations = record { text = select_n; values = Int (pos 2) ∷ []; seen = one_row 2 ∷ one_row 1 ∷ one_row 2 ∷ [] } ∷ [];
   looks = record { text = select_n; seen = one_row 2 ∷ one_row 1 ∷ one_row 2 ∷ [] } ∷ [];
 }
 
-expecting_page : page_bytes expecting ≡ flat_map line (
-    codes "lost_update_without_blocks.spec: 6 orders, 3 classes"
+with_left_page : page_bytes with_left ≡ flat_map line (
+    codes "lost_update_without_blocks.spec: 6 orders in 3 classes"
     ∷ codes ""
-    ∷ codes "expected of SELECT n FROM counter: 2"
-    ∷ codes "  so in 2 of 6 orders"
-    ∷ codes "  first not so at rank 1: a1 b1 a2 b2"
-    ∷ codes "    row 1"
-    ∷ codes "    rows 1"
-    ∷ totals_without_blocks
-    ++ (codes ""
-    ∷ codes "class  orders  share %  shows   rank  order"
-    ∷ codes "    1       1     16.6  ------     0  a1 a2 b1 b2"
+    ∷ codes "expect SELECT n FROM counter = 2"
+    ∷ codes "  FAILED in 4 of 6 orders"
+    ∷ codes "  first: a1 b1 a2 b2    (rank 1)"
+    ∷ codes "  found: 1"
     ∷ codes ""
-    ∷ codes "look SELECT n FROM counter"
-    ∷ codes "  row 2"
-    ∷ codes "  rows 1"
+    ∷ codes "      orders  share  classes"
+    ∷ codes "  W        0   0.0%        0  a session waits"
+    ∷ codes "  D        0   0.0%        0  a session is the victim of a deadlock"
+    ∷ codes "  E        0   0.0%        0  another error"
+    ∷ codes "  S        0   0.0%        0  a session waits for ever"
+    ∷ codes "  R        4  66.7%        1  anomaly: no error, yet no serial order gives this result"
     ∷ codes ""
-    ∷ codes "    2       4     66.6  -----R     1  a1 b1 a2 b2"
-    ∷ codes ""
-    ∷ codes "look SELECT n FROM counter"
-    ∷ codes "  row 1"
-    ∷ codes "  rows 1"
-    ∷ codes ""
-    ∷ codes "    3       1     16.6  ------     5  b1 b2 a1 a2"
-    ∷ codes ""
-    ∷ codes "look SELECT n FROM counter"
-    ∷ codes "  row 2"
-    ∷ codes "  rows 1"
-    ∷ codes ""
-    ∷ codes "the order of the least rank, with marks: : waits   ! fails   - is not sent" ∷ []))
-unfolding chars digits encode_utf8
-expecting_page = refl
+    ∷ codes "class  orders  share  WDESR  rank  first order"
+    ∷ codes "    1       1  16.7%  .....     0  a1 a2 b1 b2"
+    ∷ codes "          counter: 1|2, 2|7"
+    ∷ codes "          log: no row"
+    ∷ codes "          query SELECT n FROM counter: 2"
+    ∷ codes "    2       4  66.7%  ....R     1  a1 b1 a2 b2"
+    ∷ codes "          counter: 1|1, 2|7"
+    ∷ codes "          log: no row"
+    ∷ codes "          a is in a transaction"
+    ∷ codes "          query SELECT n FROM counter: 1"
+    ∷ codes "    3       1  16.7%  .....     5  b1 b2 a1 a2"
+    ∷ codes "          counter: 1|2, 2|7"
+    ∷ codes "          log: no row"
+    ∷ codes "          a is in a failed block"
+    ∷ codes "          b waits"
+    ∷ codes "          query SELECT n FROM counter: 2" ∷ [])
+unfolding chars digits encode_utf8 margin
+with_left_page = refl
+
+-- how sessions stand is no part of a result
+left_answers : left_lines Answers (table (codes "log") ∷ []) (codes "a" ∷ []) (record { told = []; left = [] ∷ []; rests = IsOpen ∷ [] })
+    ≡ codes "          log: no row" ∷ []
+unfolding chars margin
+left_answers = refl
+
+seen : map (seen_text []) ((event.Rows 0 ∷ []) ∷ (event.Failed OutOfRange ∷ []) ∷ (event.Row (Int (pos 1) ∷ []) ∷ event.Row (Text (codes "it's") ∷ []) ∷ event.Rows 2 ∷ []) ∷ [])
+    ≡ codes "no row" ∷ codes "error: integer out of range" ∷ codes "1, 'it''s'" ∷ []
+unfolding chars digits
+seen = refl
 
 -- two rows are not one, nor is none, an error, or a row of other values
 met : map (meets (Int (pos 2) ∷ Text (codes "it's") ∷ [])) (
@@ -450,6 +424,16 @@ met_by_all : expected_lines [] 1 (row 0 1 nothing [] [] ∷ []) (record {
   values = Text (codes "it's") ∷ Int (negsuc 4) ∷ [];
   seen = (event.Row (Text (codes "it's") ∷ Int (negsuc 4) ∷ []) ∷ event.Rows 1 ∷ []) ∷ [];
 })
-    ≡ codes "expected of SELECT name FROM t: 'it''s'|-5" ∷ codes "  so in 1 of 1 order" ∷ []
+    ≡ codes "expect SELECT name FROM t = 'it''s', -5: holds in 1 of 1 order" ∷ []
 unfolding chars digits
 met_by_all = refl
+
+-- and one by none: several rows are seen
+met_by_none : expected_lines (codes "a1" ∷ []) 1000 (row 0 1000 nothing (0 ∷ []) [] ∷ []) (record {
+  text = codes "SELECT name FROM t";
+  values = Int (negsuc 4) ∷ [];
+  seen = (event.Row (Int (negsuc 4) ∷ []) ∷ event.Row (Int (negsuc 5) ∷ []) ∷ event.Rows 2 ∷ []) ∷ [];
+})
+    ≡ codes "expect SELECT name FROM t = -5" ∷ codes "  FAILED in 1,000 of 1,000 orders" ∷ codes "  first: a1    (rank 0)" ∷ codes "  found: 2 rows, first -5" ∷ []
+unfolding chars digits
+met_by_none = refl

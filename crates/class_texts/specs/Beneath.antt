@@ -1,7 +1,10 @@
--- What stands beneath the order of a class: its ranks, what it leaves, and what SELECTs see of that.
-use Rattle.std.specs.Prelude.{ℕ, ◌+◌, ◌-◌, ◌==◌, cond, List, [], ◌∷◌, ◌++◌, get_or, codes, decimal, flat_map}
+-- What stands beneath a class: its ranks, what its first order tells each session, its final rows, and what queries find there.
+use Rattle.std.specs.Prelude.{ℕ, ◌+◌, ◌-◌, ◌==◌, Bool, true, false, cond, List, [], ◌∷◌, ◌++◌, map, get_or, codes, decimal, flat_map, zip}
+use Rattle.std.specs.List.{list_any}
 use Rattle.lock_modes.specs.declared.value.Value.{Value}
 use Rattle.events.specs.declared.event.Event.{Event}
+use Rattle.events.specs.declared.event.Event.TheVariants.{Row, Failed}
+use Rattle.transcripts.specs.Text.{event_line}
 use Rattle.binding_model.specs.declared.tables.Table.{Table}
 use Rattle.class_stretches.specs.declared.rank_run.RankRun.{RankRun}
 use Rattle.class_texts.specs.declared.kind.ClassKind.{ClassKind}
@@ -10,9 +13,12 @@ use Rattle.order_classes.specs.declared.shows.Rest.{Rest}
 use Rattle.order_classes.specs.declared.shows.Rest.TheVariants.{HasEnded, IsOpen, HasFailed, StillWaits}
 use Rattle.order_classes.specs.declared.shows.Shows.{Shows as Shown}
 use Rattle.shown_texts.specs.Characters.{shown_text}
-use Rattle.shown_texts.specs.Breaking.{broken}
 use Rattle.shown_texts.specs.Lanes.{words}
-use Rattle.shown_texts.specs.Pages.{hanging_lines, left_in, standing_lines}
+use Rattle.shown_texts.specs.Pages.{values_text}
+
+-- it stands behind so many blanks. They do not unfold: what stands behind them does not go by their number
+unfoldable pub margin : List ℕ
+margin = codes "          "
 
 -- ---- ranks
 
@@ -27,15 +33,46 @@ behind_range run = 32 ∷ range_text run
 abbrev pub ranks_text : List RankRun → List ℕ
 ranks_text runs = codes "ranks" ++ flat_map behind_range runs
 
-abbrev pub ranks_lines : List RankRun → List (List ℕ)
-ranks_lines runs = broken 80 0 6 (ranks_text runs)
+-- ---- what an order tells each session
 
--- ---- what is left
+abbrev pub event_beneath : List (List ℕ) → Event → List ℕ
+event_beneath steps event = margin ++ event_line steps event
 
--- the declared tables from this one on, each with the rows that are left in it
-abbrev pub tables_from : List (List (Value × List Value)) → ℕ → List Table → List (List ℕ)
-tables_from left k [] = []
-tables_from left k (t ∷ ts) = left_in t.name (get_or left k []) ++ tables_from left (k + 1) ts
+abbrev pub name_beneath : List ℕ → List ℕ
+name_beneath name = margin ++ (codes "session " ++ (name ++ codes "\n"))
+
+abbrev pub session_beneath : List (List ℕ) → List ℕ × List Event → List ℕ
+session_beneath steps s = name_beneath s.0 ++ flat_map (event_beneath steps) s.1
+
+-- the outcome text, each of its lines behind the margin
+abbrev pub outcome_beneath : List (List ℕ) → List (List ℕ) → List (List Event) → List ℕ
+outcome_beneath sessions steps told = flat_map (session_beneath steps) (zip sessions told)
+
+-- ---- rows on one line
+
+abbrev pub row_text : List Value → List ℕ
+row_text values = shown_text (values_text values)
+
+abbrev pub behind_comma : List Value → List ℕ
+behind_comma values = codes ", " ++ row_text values
+
+abbrev pub rows_text : List (List Value) → List ℕ
+rows_text [] = codes "no row"
+rows_text (row ∷ rows) = row_text row ++ flat_map behind_comma rows
+
+-- ---- final rows
+
+abbrev pub values_of : Value × List Value → List Value
+values_of entry = entry.1
+
+-- the final rows of a table, behind a margin
+abbrev pub table_line : List ℕ → Table → List (Value × List Value) → List ℕ
+table_line front table rows = front ++ (shown_text table.name ++ (codes ": " ++ rows_text (map values_of rows)))
+
+-- of the declared tables from this one on
+abbrev pub tables_from : List ℕ → List (List (Value × List Value)) → ℕ → List Table → List (List ℕ)
+tables_from front left k [] = []
+tables_from front left k (t ∷ ts) = table_line front t (get_or left k []) ∷ tables_from front left (k + 1) ts
 
 -- how a session stands that has not ended
 abbrev pub rest_text : Rest → List ℕ
@@ -44,12 +81,16 @@ rest_text IsOpen = codes " is in a transaction"
 rest_text HasFailed = codes " is in a failed block"
 rest_text StillWaits = codes " waits"
 
+abbrev pub rest_lines : List ℕ → List ℕ → List (List ℕ)
+rest_lines name [] = []
+rest_lines name (c ∷ cs) = (margin ++ (shown_text name ++ c ∷ cs)) ∷ []
+
 -- the sessions from this one on that have not ended
 abbrev pub rests_from : List (List ℕ) → ℕ → List Rest → List (List ℕ)
 rests_from sessions n [] = []
-rests_from sessions n (r ∷ rs) = standing_lines (shown_text (get_or sessions n [])) (rest_text r) ++ rests_from sessions (n + 1) rs
+rests_from sessions n (r ∷ rs) = rest_lines (get_or sessions n []) (rest_text r) ++ rests_from sessions (n + 1) rs
 
--- how sessions stand is no answer
+-- how sessions stand is no part of a result
 abbrev pub rests_by : ClassKind → List (List ℕ) → List Rest → List (List ℕ)
 rests_by Shows sessions rests = rests_from sessions 0 rests
 rests_by Answers sessions rests = []
@@ -57,29 +98,39 @@ rests_by Outcomes sessions rests = []
 
 -- where nothing is to be said, that is
 abbrev pub or_nothing : List (List ℕ) → List (List ℕ)
-or_nothing [] = codes "nothing" ∷ []
+or_nothing [] = (margin ++ codes "nothing") ∷ []
 or_nothing (line ∷ lines) = line ∷ lines
 
 abbrev pub left_lines : ClassKind → List Table → List (List ℕ) → Shown → List (List ℕ)
-left_lines by tables sessions s = or_nothing (tables_from s.left 0 tables ++ rests_by by sessions s.rests)
+left_lines by tables sessions s = or_nothing (tables_from margin s.left 0 tables ++ rests_by by sessions s.rests)
 
--- ---- looks
+-- ---- queries
 
--- a SELECT as it was given, and what it sees of what is left, class by class in the order of the rows
+-- a SELECT as it was given, and what it sees of the final rows, class by class in the order of the rows
 pub record Look : Type 0 where
   pub text : List ℕ
   pub seen : List (List Event)
 
--- an event in its words behind so many blanks
-abbrev pub event_lines : ℕ → List (List ℕ) → Event → List (List ℕ)
-event_lines front steps event = broken 80 front (front + 2) (words steps event)
+abbrev pub behind_row : Event → List (List Value) → List (List Value)
+behind_row (Row row) rows = row ∷ rows
+behind_row event rows = rows
 
-abbrev pub events_lines : ℕ → List (List ℕ) → List Event → List (List ℕ)
-events_lines front steps events = flat_map (event_lines front steps) events
+-- the rows that events tell of
+abbrev pub rows_of : List Event → List (List Value)
+rows_of [] = []
+rows_of (event ∷ events) = behind_row event (rows_of events)
 
-abbrev pub look_head : List ℕ → List (List ℕ)
-look_head text = hanging_lines (codes "look " ++ shown_text text)
+abbrev pub is_failure : Event → Bool
+is_failure (Failed fault) = true
+is_failure event = false
+
+-- the failure alone where a SELECT fails, and else this
+abbrev pub unless_failed : List (List ℕ) → List Event → List ℕ → List ℕ
+unless_failed steps events text = cond (list_any is_failure events) (flat_map (words steps) events) text
+
+abbrev pub seen_text : List (List ℕ) → List Event → List ℕ
+seen_text steps events = unless_failed steps events (rows_text (rows_of events))
 
 -- what it sees of the class at this place
-abbrev pub look_lines : List (List ℕ) → ℕ → Look → List (List ℕ)
-look_lines steps k look = look_head look.text ++ events_lines 2 steps (get_or look.seen k [])
+abbrev pub look_line : List (List ℕ) → ℕ → Look → List ℕ
+look_line steps k look = margin ++ (codes "query " ++ (shown_text look.text ++ (codes ": " ++ seen_text steps (get_or look.seen k []))))

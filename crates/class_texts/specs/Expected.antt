@@ -1,5 +1,5 @@
 -- What is expected of orders: that a SELECT sees one row of what they leave, with these values.
-use Rattle.std.specs.Prelude.{ℕ, ◌+◌, ◌==◌, Bool, true, false, ◌&&◌, cond, List, [], ◌∷◌, ◌++◌, get_or, codes, decimal, flat_map, Option, Some, None}
+use Rattle.std.specs.Prelude.{ℕ, ◌+◌, ◌==◌, Bool, true, false, ◌&&◌, cond, List, [], ◌∷◌, ◌++◌, length, get_or, codes, decimal, flat_map, Option, Some, None}
 use Rattle.std.specs.List.{list_all}
 use Rattle.std.specs.Ordering.{eq_by_cmp}
 use Rattle.lock_modes.specs.Value.{value_cmp}
@@ -8,11 +8,9 @@ use Rattle.events.specs.declared.event.Event.{Event}
 use Rattle.events.specs.declared.event.Event.TheVariants.{Row, Rows}
 use Rattle.order_classes.specs.declared.rows.ClassRow.{ClassRow}
 use Rattle.shown_texts.specs.Characters.{shown_text}
-use Rattle.shown_texts.specs.Breaking.{broken}
-use Rattle.shown_texts.specs.Pages.{hanging_lines, values_text}
-use Rattle.class_texts.specs.Counted.{counted}
-use Rattle.class_texts.specs.Orders.{behind_blank, step_words}
-use Rattle.class_texts.specs.Beneath.{events_lines}
+use Rattle.class_texts.specs.Counted.{counted, number_text}
+use Rattle.class_texts.specs.Orders.{order_text}
+use Rattle.class_texts.specs.Beneath.{row_text, rows_of, unless_failed}
 
 -- a SELECT as it was given, the values of the row, and what the SELECT sees, class by class in the order of the rows
 pub record Expectation : Type 0 where
@@ -20,7 +18,7 @@ pub record Expectation : Type 0 where
   pub values : List Value
   pub seen : List (List Event)
 
--- ---- of which classes it is so
+-- ---- of which classes it holds
 
 abbrev pub same_values : List Value → List Value → Bool
 same_values [] [] = true
@@ -43,54 +41,95 @@ meets values (a ∷ []) = false
 meets values (a ∷ b ∷ []) = is_row values a && is_one b
 meets values (a ∷ b ∷ c ∷ events) = false
 
--- it is so of all classes
+-- it holds of all classes
 abbrev pub is_met : Expectation → Bool
 is_met e = list_all (meets e.values) e.seen
 
--- it is so of the class at this place
+-- it holds of the class at this place
 abbrev pub is_met_at : Expectation → ℕ → Bool
 is_met_at e k = meets e.values (get_or e.seen k [])
 
 abbrev pub met_at : Expectation → ℕ → ClassRow → ℕ
 met_at e k row = cond (is_met_at e k) row.count 0
 
--- the orders of the classes from this place on of which it is so
+-- the orders of the classes from this place on of which it holds
 abbrev pub met_from : Expectation → ℕ → List ClassRow → ℕ
 met_from e k [] = 0
 met_from e k (row ∷ rows) = met_at e k row + met_from e (k + 1) rows
 
--- the first class from this place on of which it is not so, with what is seen there
+abbrev pub missed_at : Expectation → ℕ → ClassRow → ℕ
+missed_at e k row = cond (is_met_at e k) 0 row.count
+
+-- those of which it does not
+abbrev pub missed_from : Expectation → ℕ → List ClassRow → ℕ
+missed_from e k [] = 0
+missed_from e k (row ∷ rows) = missed_at e k row + missed_from e (k + 1) rows
+
+-- the first class from this place on of which it does not hold, with what is seen there
 abbrev pub first_miss : Expectation → ℕ → List ClassRow → Option (ClassRow × List Event)
 first_miss e k [] = None
 first_miss e k (row ∷ rows) = cond (is_met_at e k) (first_miss e (k + 1) rows) (Some (row, get_or e.seen k []))
 
 -- ---- in words
 
+abbrev pub value_text : Value → List ℕ
+value_text v = row_text (v ∷ [])
+
+abbrev pub behind_value : Value → List ℕ
+behind_value v = codes ", " ++ value_text v
+
+abbrev pub values_text : List Value → List ℕ
+values_text [] = []
+values_text (v ∷ vs) = value_text v ++ flat_map behind_value vs
+
 abbrev pub expected_text : Expectation → List ℕ
-expected_text e = codes "expected of " ++ (shown_text e.text ++ (codes ": " ++ shown_text (values_text e.values)))
+expected_text e = codes "expect " ++ (shown_text e.text ++ (codes " = " ++ values_text e.values))
 
--- so many of the orders
-abbrev pub so_line : ℕ → ℕ → List ℕ
-so_line met orders = codes "  so in " ++ (decimal met ++ (codes " of " ++ counted orders (codes "order") (codes "orders")))
+-- so many of so many orders
+abbrev pub of_orders : ℕ → ℕ → List ℕ
+of_orders n orders = number_text n ++ (codes " of " ++ counted orders (codes "order") (codes "orders"))
 
--- the order of the least rank of a class, with a blank in front of each step
-abbrev pub miss_text : List (List ℕ) → ClassRow → List ℕ
-miss_text steps row =
-    codes "first not so at rank "
-    ++ (decimal row.least ++ (codes ":" ++ flat_map behind_blank (step_words steps row.shows.told row.line.items 0 row.line.items)))
+-- what is seen in place of the one row
+abbrev pub several_rows : ℕ → List Value → List ℕ
+several_rows n first = number_text n ++ (codes " rows, first " ++ row_text first)
 
--- a class of which it is not so, with what is seen there
+abbrev pub found_rows : List (List Value) → List ℕ
+found_rows [] = codes "no row"
+found_rows (row ∷ []) = row_text row
+found_rows (row ∷ next ∷ rows) = several_rows (length (row ∷ next ∷ rows)) row
+
+abbrev pub found_text : List (List ℕ) → List Event → List ℕ
+found_text steps events = unless_failed steps events (found_rows (rows_of events))
+
+abbrev pub failed_line : ℕ → ℕ → List ℕ
+failed_line missed orders = codes "  FAILED in " ++ of_orders missed orders
+
+abbrev pub rank_text : ℕ → List ℕ
+rank_text rank = codes "    (rank " ++ (decimal rank ++ codes ")")
+
+abbrev pub first_line : List (List ℕ) → ClassRow → List ℕ
+first_line steps row = codes "  first:" ++ (order_text steps row.shows.told row.line.items ++ rank_text row.least)
+
+abbrev pub found_line : List (List ℕ) → List Event → List ℕ
+found_line steps events = codes "  found: " ++ found_text steps events
+
+-- a class of which it does not hold, with what is seen there
 abbrev pub miss_lines : List (List ℕ) → ClassRow → List Event → List (List ℕ)
-miss_lines steps row events = broken 80 2 4 (miss_text steps row) ++ events_lines 4 steps events
+miss_lines steps row events = first_line steps row ∷ found_line steps events ∷ []
 
-abbrev pub miss_of : List (List ℕ) → Option (ClassRow × List Event) → List (List ℕ)
-miss_of steps None = []
-miss_of steps (Some miss) = miss_lines steps miss.0 miss.1
+abbrev pub holds_line : ℕ → Expectation → List ℕ
+holds_line orders e = expected_text e ++ (codes ": holds in " ++ of_orders orders orders)
 
--- the first class from this place on of which it is not so, if there is one
-abbrev pub miss_from : List (List ℕ) → Expectation → ℕ → List ClassRow → List (List ℕ)
-miss_from steps e k rows = miss_of steps (first_miss e k rows)
+abbrev pub missed_lines : ℕ → List ClassRow → Expectation → List (List ℕ)
+missed_lines orders rows e = expected_text e ∷ failed_line (missed_from e 0 rows) orders ∷ []
 
--- of how many of so many orders it is so, and the least rank of which it is not
+abbrev pub failed_lines : List (List ℕ) → ℕ → List ClassRow → Expectation → ClassRow → List Event → List (List ℕ)
+failed_lines steps orders rows e row events = missed_lines orders rows e ++ miss_lines steps row events
+
+-- it holds of all of so many orders; or it does not, of so many and of this class first
+abbrev pub expected_by : List (List ℕ) → ℕ → List ClassRow → Expectation → Option (ClassRow × List Event) → List (List ℕ)
+expected_by steps orders rows e None = holds_line orders e ∷ []
+expected_by steps orders rows e (Some miss) = failed_lines steps orders rows e miss.0 miss.1
+
 abbrev pub expected_lines : List (List ℕ) → ℕ → List ClassRow → Expectation → List (List ℕ)
-expected_lines steps orders rows e = hanging_lines (expected_text e) ++ (so_line (met_from e 0 rows) orders ∷ miss_from steps e 0 rows)
+expected_lines steps orders rows e = expected_by steps orders rows e (first_miss e 0 rows)

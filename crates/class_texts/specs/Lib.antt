@@ -1,8 +1,10 @@
 pub mod Marks
-pub mod Orders
-pub mod Letters
 pub mod Counted
+pub mod Orders
+pub mod Legend
+pub mod Letters
 pub mod Beneath
 pub mod Expected
 pub mod Pages
+pub mod Records
 pub mod Laws

@@ -1,8 +1,8 @@
--- The order of a class: its steps with their marks, in lines.
-use Rattle.std.specs.Prelude.{ℕ, suc, ◌+◌, nat_le, Bool, cond, List, [], ◌∷◌, ◌++◌, length, take, get_or, codes}
+-- The first order of a class: its steps with their marks.
+use Rattle.std.specs.Prelude.{ℕ, suc, List, [], ◌∷◌, ◌++◌, take, get_or, codes, flat_map}
 use Rattle.events.specs.declared.event.Event.{Event}
 use Rattle.order_names.specs.Spelling.{spelled}
-use Rattle.shown_texts.specs.Characters.{blanks, shown_text}
+use Rattle.shown_texts.specs.Characters.{shown_text}
 use Rattle.shown_texts.specs.Names.{cut}
 use Rattle.shown_texts.specs.Orders.{mark_if}
 use Rattle.class_texts.specs.Marks.{marks}
@@ -27,20 +27,6 @@ abbrev pub step_words : List (List ℕ) → List (List Event) → List ℕ → �
 step_words steps told order place [] = []
 step_words steps told order place (k ∷ ks) = step_word steps told (take place order) k ∷ step_words steps told order (suc place) ks
 
--- a word goes on a line behind a blank
-abbrev pub fits : List ℕ → List ℕ → Bool
-fits line word = nat_le (length line + 1 + length word) 80
-
--- lines of words, of which the first begins so: a word that does not go on a line begins the next one, behind a margin
-abbrev pub filled : ℕ → List ℕ → List (List ℕ) → List (List ℕ)
-filled margin line [] = line ∷ []
-filled margin line (word ∷ words) = cond (fits line word) (filled margin (line ++ 32 ∷ word) words) (line ∷ filled margin (blanks margin ++ word) words)
-
--- the words behind what stands in front of them, and beneath each other
-abbrev pub hanging : List ℕ → List (List ℕ) → List (List ℕ)
-hanging front [] = front ∷ []
-hanging front (word ∷ words) = filled (length front) (front ++ word) words
-
--- an order behind what stands in front of it
-abbrev pub order_lines : List (List ℕ) → List (List Event) → List ℕ → List ℕ → List (List ℕ)
-order_lines steps told front line = hanging front (step_words steps told line 0 line)
+-- all of them, a blank in front of each
+abbrev pub order_text : List (List ℕ) → List (List Event) → List ℕ → List ℕ
+order_text steps told order = flat_map behind_blank (step_words steps told order 0 order)

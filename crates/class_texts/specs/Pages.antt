@@ -1,39 +1,45 @@
 -- The text of classes.
-use Rattle.std.specs.Prelude.{ℕ, ◌+◌, ◌-◌, ◌*◌, ◌/◌, ◌%◌, max, Bool, true, false, cond, ◌||◌, ◌==◌}
-use Rattle.std.specs.Prelude.{List, [], ◌∷◌, ◌++◌, length, map, get_or, codes, decimal, flat_map, Option, Some, None}
+use Rattle.std.specs.Prelude.{ℕ, ◌+◌, ◌-◌, ◌*◌, ◌/◌, ◌%◌, max, nat_lt, Bool, cond, ◌&&◌, ◌||◌, not, ◌==◌}
+use Rattle.std.specs.Prelude.{List, [], ◌∷◌, ◌++◌, length, map, get_or, codes, decimal, flat_map, Option, Some, None, is_some}
 use Rattle.binding_model.specs.declared.tables.Table.{Table}
 use Rattle.events.specs.declared.event.Event.{Event}
-use Rattle.transcripts.specs.Text.{outcome_text}
 use Rattle.order_classes.specs.declared.rows.ClassRow.{ClassRow}
 use Rattle.order_classes.specs.declared.rows.Total.{Total}
 use Rattle.order_classes.specs.declared.rows.Totals.{Totals}
 use Rattle.order_classes.specs.declared.shows.Shows.{Shows as Shown}
 use Rattle.class_stretches.specs.declared.rank_run.RankRun.{RankRun}
-use Rattle.shown_texts.specs.Characters.{blanks, padded, shown_text}
+use Rattle.class_stretches.specs.declared.missing.Missing.{Missing}
+use Rattle.shown_texts.specs.Characters.{blanks, shown_text}
+use Rattle.shown_texts.specs.Levels.{level_text}
 use Rattle.shown_texts.specs.Pages.{line_bytes, part}
 use Rattle.class_texts.specs.Letters.{letters_of, letters_text, meaning, sign, total_of}
-use Rattle.class_texts.specs.Counted.{counted}
-use Rattle.class_texts.specs.Orders.{order_lines}
-use Rattle.class_texts.specs.Beneath.{Look, left_lines, look_lines, ranks_lines}
+use Rattle.class_texts.specs.Counted.{counted, number_text}
+use Rattle.class_texts.specs.Orders.{order_text}
+use Rattle.class_texts.specs.Legend.{legend_lines}
+use Rattle.class_texts.specs.Beneath.{Look, left_lines, look_line, margin, outcome_beneath, ranks_text}
 use Rattle.class_texts.specs.Expected.{Expectation, expected_lines}
 use Rattle.class_texts.specs.declared.kind.ClassKind.{ClassKind}
 use Rattle.class_texts.specs.declared.kind.ClassKind.TheVariants.{Shows, Answers, Outcomes}
-use Rattle.class_stretches.specs.declared.missing.Missing.{Missing}
 use Rattle.class_texts.specs.declared.letters.Letter.{Letter}
-use Rattle.class_texts.specs.declared.widths.Widths.{Widths}
+use Rattle.class_texts.specs.declared.widths.TableWidths.{TableWidths}
+use Rattle.class_texts.specs.declared.widths.TotalWidths.{TotalWidths}
 
--- what a page is made of: the path of the spec and how many orders it has; the names of sessions and of steps, and the declared tables; by what orders are
--- grouped, whether these are not all orders, and which are missing; what is expected; the totals and the classes; and whether the totals are told alone. Of each class what else is
--- told: its ranks, its outcome, what it leaves, and what SELECTs see of that
+-- what a page is made of: the path of the spec and how many orders it has, of all permutations or of those alone that clients can send; the names of
+-- sessions and of steps, and the declared tables; by what orders are grouped, whether these are not all orders, by which filters, and which are missing; the
+-- lines of the file with a level that has no effect; what is expected; the totals and the classes; and whether the totals are told alone. Of each class what
+-- else is told: its ranks, its outcome, its final rows, and what queries see of these
 pub record Page : Type 0 where
   pub path : List ℕ
   pub orders : ℕ
+  pub all_orders : Bool
   pub sessions : List (List ℕ)
   pub steps : List (List ℕ)
   pub tables : List Table
   pub by : ClassKind
   pub is_filtered : Bool
+  pub filters : List ℕ
   pub missing : Option Missing
+  pub level_lines : List ℕ
   pub expectations : List Expectation
   pub totals : Totals
   pub rows : List ClassRow
@@ -44,194 +50,251 @@ pub record Page : Type 0 where
   pub with_left : Bool
   pub looks : List Look
 
--- ---- columns
-
--- a text behind blanks, to a width
-abbrev pub right : ℕ → List ℕ → List ℕ
-right width text = blanks (width - length text) ++ text
-
-abbrev pub digits_of : ℕ → ℕ
-digits_of n = length (decimal n)
-
 -- one class, and several
 abbrev pub class_word : ClassKind → List ℕ
 class_word Shows = codes "class"
-class_word Answers = codes "answer"
-class_word Outcomes = codes "outcome"
+class_word Answers = codes "result"
+class_word Outcomes = codes "class"
 
 abbrev pub classes_word : ClassKind → List ℕ
 classes_word Shows = codes "classes"
-classes_word Answers = codes "answers"
-classes_word Outcomes = codes "outcomes"
+classes_word Answers = codes "results"
+classes_word Outcomes = codes "classes"
 
--- the columns with the two blanks in front of them, but for the first one: numbers of orders and of classes, the numbers of the rows, what they show without
--- blanks, and ranks
-abbrev pub widths_by : ClassKind → ℕ → ℕ → ℕ → Widths
-widths_by by orders classes rows =
-    record {
-      orders = 2 + max 6 (digits_of orders);
-      classes = 2 + max (length (classes_word by)) (digits_of classes);
-      number = max (length (class_word by)) (digits_of rows);
-      shows = max 5 (length (letters_of by));
-      rank = 2 + max 4 (digits_of orders);
-    }
+-- ---- the head
 
-abbrev pub widths : Page → Widths
-widths p = widths_by p.by p.orders p.totals.all.classes (length p.rows)
-
--- ---- shares
-
--- tenths of a per cent, cut off, but one at least
-abbrev pub tenths : ℕ → ℕ → ℕ
-tenths whole part = max (part * 1000 / max 1 whole) 1
-
-abbrev pub tenths_text : ℕ → List ℕ
-tenths_text n = decimal (n / 10) ++ (codes "." ++ decimal (n % 10))
-
-abbrev pub share_text : ℕ → ℕ → List ℕ
-share_text whole part = cond (part == 0) (codes "0") (tenths_text (tenths whole part))
-
--- ---- the title, what is expected, and the totals
-
--- how many of the orders are told of, where these are not all
+-- how many orders are told of, where these are not all
 abbrev pub asked_text : Bool → ℕ → List ℕ
-asked_text is_filtered n = cond is_filtered (decimal n ++ codes " of ") []
+asked_text is_filtered n = cond is_filtered (number_text n ++ codes " of ") []
 
 abbrev pub counts_text : Page → List ℕ
 counts_text p =
     asked_text p.is_filtered p.totals.all.orders
-    ++ (counted p.orders (codes "order") (codes "orders") ++ (codes ", " ++ counted p.totals.all.classes (class_word p.by) (classes_word p.by)))
+    ++ (counted p.orders (codes "order") (codes "orders") ++ (codes " in " ++ counted p.totals.all.classes (class_word p.by) (classes_word p.by)))
+
+-- that all permutations are counted, which is not said of permutation lines
+abbrev pub all_remark : Page → List (List ℕ)
+all_remark p = cond (p.all_orders && is_some p.totals.not_serial) (codes "all permutations" ∷ []) []
+
+abbrev pub unsent_text : ℕ → List ℕ
+unsent_text n = counted n (codes "contains") (codes "contain") ++ codes " a step that is not sent"
+
+-- how many of them no client can send
+abbrev pub unsent_remark : Page → List (List ℕ)
+unsent_remark p = cond (p.all_orders && nat_lt 0 p.totals.unsent.orders) (unsent_text p.totals.unsent.orders ∷ []) []
+
+abbrev pub filters_remark : List ℕ → List (List ℕ)
+filters_remark [] = []
+filters_remark (c ∷ cs) = shown_text (c ∷ cs) ∷ []
+
+abbrev pub remarks : Page → List (List ℕ)
+remarks p = all_remark p ++ (unsent_remark p ++ filters_remark p.filters)
+
+abbrev pub behind_semicolon : List ℕ → List ℕ
+behind_semicolon remark = codes "; " ++ remark
+
+abbrev pub in_brackets : List (List ℕ) → List ℕ
+in_brackets [] = []
+in_brackets (remark ∷ remarks) = codes " (" ++ (remark ++ (flat_map behind_semicolon remarks ++ codes ")"))
+
+-- how many orders are missing, and the first of them
+abbrev pub missing_text : Option Missing → List ℕ
+missing_text None = []
+missing_text (Some m) = codes "; " ++ (counted m.ranks (codes "order is missing, rank ") (codes "orders are missing, the first of rank ") ++ decimal m.first)
 
 abbrev pub title : Page → List ℕ
-title p = shown_text p.path ++ (codes ": " ++ counts_text p)
+title p = shown_text p.path ++ (codes ": " ++ (counts_text p ++ (in_brackets (remarks p) ++ missing_text p.missing)))
 
--- a line of the totals
-abbrev pub total_cells : Widths → List ℕ → List ℕ → List ℕ → List ℕ → List ℕ
-total_cells w letter orders share classes = right 5 letter ++ (right w.orders orders ++ (right 9 share ++ right w.classes classes))
+-- what books do not know
+abbrev pub books_line : ClassKind → List (List ℕ)
+books_line Shows = []
+books_line Answers = []
+books_line Outcomes = codes "Books have no final rows: S and R are not known." ∷ []
 
-abbrev pub totals_head : Widths → ClassKind → List ℕ
-totals_head w by = total_cells w [] (codes "orders") (codes "share %") (classes_word by)
-
-abbrev pub some_total : Widths → ℕ → Letter → Total → List ℕ
-some_total w whole letter t = total_cells w (sign letter) (decimal t.orders) (share_text whole t.orders) (decimal t.classes)
-
--- no numbers where the letter is not told
-abbrev pub total_numbers : Widths → ℕ → Letter → Option Total → List ℕ
-total_numbers w whole letter None = total_cells w (sign letter) (codes "-") (codes "-") (codes "-")
-total_numbers w whole letter (Some t) = some_total w whole letter t
-
-abbrev pub total_line : Widths → ℕ → Totals → Letter → List ℕ
-total_line w whole totals letter = total_numbers w whole letter (total_of totals letter) ++ (codes "  " ++ meaning letter)
-
-abbrev pub totals_lines : Widths → Page → List (List ℕ)
-totals_lines w p = totals_head w p.by ∷ map (total_line w p.orders p.totals) (letters_of p.by)
+abbrev pub head_lines : Page → List (List ℕ)
+head_lines p = title p ∷ (level_text p.level_lines ++ books_line p.by)
 
 abbrev pub expectations_lines : Page → List (List ℕ)
 expectations_lines p = flat_map (expected_lines p.steps p.totals.all.orders p.rows) p.expectations
 
--- how many orders are missing, and the first of them
-abbrev pub missing_text : Option Missing → List ℕ
-missing_text None = codes "no order is missing"
-missing_text (Some m) = counted m.ranks (codes "order is missing, of rank ") (codes "orders are missing, the first of rank ") ++ decimal m.first
+-- ---- shares
 
--- what books do not know
-abbrev pub unknown_text : List ℕ
-unknown_text = codes "what orders leave is in no book, so S and R are not told"
+-- tenths of a per cent, of which a half is rounded up
+abbrev pub tenths : ℕ → ℕ → ℕ
+tenths whole part = (part * 2000 + whole) / max 1 (whole * 2)
 
-abbrev pub books_by : ClassKind → Option Missing → List (List ℕ)
-books_by Shows m = []
-books_by Answers m = []
-books_by Outcomes m = unknown_text ∷ missing_text m ∷ []
+abbrev pub tenths_text : ℕ → List ℕ
+tenths_text n = decimal (n / 10) ++ (codes "." ++ (decimal (n % 10) ++ codes "%"))
 
-abbrev pub books_lines : Page → List (List ℕ)
-books_lines p = books_by p.by p.missing
+abbrev pub share_by : ℕ → ℕ → List ℕ
+share_by part n = cond ((n == 0) && not (part == 0)) (codes "<0.1%") (tenths_text n)
 
-abbrev pub top_lines : Widths → Page → List (List ℕ)
-top_lines w p = title p ∷ (part (expectations_lines p) ++ part (books_lines p) ++ [] ∷ totals_lines w p)
+-- a part of the orders that are told of
+abbrev pub share_text : ℕ → ℕ → List ℕ
+share_text whole part = share_by part (tenths whole part)
+
+-- ---- columns
+
+-- a text behind two blanks, and behind more to a width
+abbrev pub right : ℕ → List ℕ → List ℕ
+right width text = codes "  " ++ (blanks (width - length text) ++ text)
+
+-- the number behind these
+abbrev pub largest : ℕ → List ℕ → ℕ
+largest n [] = n
+largest n (m ∷ ms) = largest (max n m) ms
+
+-- as wide as its head and as the text of the largest number
+abbrev pub number_width : ℕ → ℕ → ℕ
+number_width head n = max head (length (number_text n))
+
+abbrev pub share_width : ℕ → ℕ → ℕ
+share_width whole part = max (length (share_text whole part)) 5
+
+-- ---- totals
+
+abbrev pub orders_of : Option Total → ℕ
+orders_of None = 0
+orders_of (Some t) = t.orders
+
+abbrev pub classes_of : Option Total → ℕ
+classes_of None = 0
+classes_of (Some t) = t.classes
+
+abbrev pub most_orders : Totals → List Letter → ℕ
+most_orders totals letters = largest 0 (map (λ l. orders_of (total_of totals l)) letters)
+
+abbrev pub most_classes : Totals → List Letter → ℕ
+most_classes totals letters = largest 0 (map (λ l. classes_of (total_of totals l)) letters)
+
+abbrev pub total_widths : ClassKind → Totals → List Letter → TotalWidths
+total_widths by totals letters = record {
+  orders = number_width 6 (most_orders totals letters);
+  share = share_width totals.all.orders (most_orders totals letters);
+  classes = number_width (length (classes_word by)) (most_classes totals letters);
+}
+
+-- a line of the totals
+abbrev pub total_cells : TotalWidths → List ℕ → List ℕ → List ℕ → List ℕ → List ℕ
+total_cells w letter orders share classes =
+    codes "  " ++ (letter ++ (codes " " ++ (right w.orders orders ++ (right w.share share ++ right w.classes classes))))
+
+abbrev pub totals_head : TotalWidths → ClassKind → List ℕ
+totals_head w by = total_cells w (codes " ") (codes "orders") (codes "share") (classes_word by)
+
+abbrev pub some_total : TotalWidths → ℕ → Letter → Total → List ℕ
+some_total w whole letter t =
+    total_cells w (sign letter) (number_text t.orders) (share_text whole t.orders) (number_text t.classes) ++ (codes "  " ++ meaning letter)
+
+-- no numbers where the letter is not known
+abbrev pub unknown_total : TotalWidths → Letter → List ℕ
+unknown_total w letter = total_cells w (sign letter) (codes "-") (codes "-") (codes "-") ++ codes "  anomaly: not known for permutation lines"
+
+abbrev pub total_by : TotalWidths → ℕ → Letter → Option Total → List ℕ
+total_by w whole letter None = unknown_total w letter
+total_by w whole letter (Some t) = some_total w whole letter t
+
+abbrev pub total_line : TotalWidths → Totals → Letter → List ℕ
+total_line w totals letter = total_by w totals.all.orders letter (total_of totals letter)
+
+abbrev pub totals_by : TotalWidths → ClassKind → Totals → List Letter → List (List ℕ)
+totals_by w by totals letters = totals_head w by ∷ map (total_line w totals) letters
+
+abbrev pub totals_lines : Page → List (List ℕ)
+totals_lines p = totals_by (total_widths p.by p.totals (letters_of p.by p.all_orders)) p.by p.totals (letters_of p.by p.all_orders)
+
+-- the head, what is expected, and the totals, with an empty line between
+abbrev pub top_lines : Page → List (List ℕ)
+top_lines p = head_lines p ++ (part (expectations_lines p) ++ part (totals_lines p))
 
 -- ---- the table
 
-abbrev pub shows_cells : Widths → List ℕ → List ℕ → List ℕ
-shows_cells w shows rank = codes "  " ++ (padded w.shows shows ++ (right w.rank rank ++ codes "  "))
+abbrev pub count_of : ClassRow → ℕ
+count_of row = row.count
+
+abbrev pub rank_of : ClassRow → ℕ
+rank_of row = row.least
+
+abbrev pub most_counted : List ClassRow → ℕ
+most_counted rows = largest 0 (map count_of rows)
+
+abbrev pub last_rank : List ClassRow → ℕ
+last_rank rows = largest 0 (map rank_of rows)
+
+abbrev pub digits_of : ℕ → ℕ
+digits_of n = length (decimal n)
+
+abbrev pub rank_width : ℕ → ℕ
+rank_width last = max (digits_of last) 4
+
+abbrev pub table_widths : ClassKind → ℕ → List ClassRow → TableWidths
+table_widths by whole rows = record {
+  number = max (digits_of (length rows)) (length (class_word by));
+  orders = number_width 6 (most_counted rows);
+  share = share_width whole (most_counted rows);
+  rank = rank_width (last_rank rows);
+}
 
 -- what stands in front of an order
-abbrev pub cells : Widths → List ℕ → List ℕ → List ℕ → List ℕ → List ℕ → List ℕ
-cells w number orders share shows rank = right w.number number ++ (right w.orders orders ++ (right 9 share ++ shows_cells w shows rank))
+abbrev pub cells : TableWidths → List ℕ → List ℕ → List ℕ → List ℕ → List ℕ → List ℕ
+cells w number orders share letters rank =
+    blanks (w.number - length number)
+    ++ (number ++ (right w.orders orders ++ (right w.share share ++ (codes "  " ++ (letters ++ (right w.rank rank ++ codes " "))))))
 
-abbrev pub table_head : Widths → ClassKind → List ℕ
-table_head w by = cells w (class_word by) (codes "orders") (codes "share %") (codes "shows") (codes "rank") ++ codes "order"
+abbrev pub letter_signs : ClassKind → Bool → List ℕ
+letter_signs by all = flat_map sign (letters_of by all)
 
-abbrev pub row_front : Widths → Page → ℕ → ClassRow → List ℕ
+abbrev pub table_head : TableWidths → ClassKind → Bool → List ℕ
+table_head w by all = cells w (class_word by) (codes "orders") (codes "share") (letter_signs by all) (codes "rank") ++ codes " first order"
+
+abbrev pub row_front : TableWidths → Page → ℕ → ClassRow → List ℕ
 row_front w p number row =
-    cells w (decimal number) (decimal row.count) (share_text p.orders row.count) (letters_text p.by row.letters) (decimal row.least)
+    cells w (decimal number) (number_text row.count) (share_text p.totals.all.orders row.count) (letters_text p.by p.all_orders row.letters) (decimal row.least)
 
-abbrev pub row_lines : Widths → Page → ℕ → ClassRow → List (List ℕ)
-row_lines w p number row = order_lines p.steps row.shows.told (row_front w p number row) row.line.items
+abbrev pub row_line : TableWidths → Page → ℕ → ClassRow → List ℕ
+row_line w p number row = row_front w p number row ++ order_text p.steps row.shows.told row.line.items
 
 -- ---- the whole, in bytes
 
 abbrev pub lines_bytes : List (List ℕ) → List ℕ
 lines_bytes lines = flat_map line_bytes lines
 
-abbrev pub ranks_part : Page → ℕ → List (List ℕ)
-ranks_part p k = cond p.with_ranks (ranks_lines (get_or p.ranks k [])) []
+abbrev pub ranks_part : Page → ℕ → List ℕ
+ranks_part p k = cond p.with_ranks (line_bytes (margin ++ ranks_text (get_or p.ranks k []))) []
 
 abbrev pub outcome_part : Page → List (List Event) → List ℕ
-outcome_part p told = cond p.with_outcomes (outcome_text p.sessions p.steps told) []
+outcome_part p told = cond p.with_outcomes (outcome_beneath p.sessions p.steps told) []
 
 abbrev pub left_part : Page → Shown → List (List ℕ)
 left_part p shows = cond p.with_left (left_lines p.by p.tables p.sessions shows) []
 
 abbrev pub looks_part : Page → ℕ → List (List ℕ)
-looks_part p k = flat_map (look_lines p.steps k) p.looks
+looks_part p k = map (look_line p.steps k) p.looks
 
 -- what is told of the class at this place beneath its order
-abbrev pub told_parts : Page → ℕ → ClassRow → List ℕ
-told_parts p k row =
-    lines_bytes (ranks_part p k) ++ (outcome_part p row.shows.told ++ (lines_bytes (left_part p row.shows) ++ lines_bytes (looks_part p k)))
-
-abbrev pub has_looks : List Look → Bool
-has_looks [] = false
-has_looks (look ∷ looks) = true
-
--- something is told of classes beneath their orders
-abbrev pub tells_more : Page → Bool
-tells_more p = p.with_ranks || p.with_outcomes || p.with_left || has_looks p.looks
-
--- that stands between empty lines
 abbrev pub beneath : Page → ℕ → ClassRow → List ℕ
-beneath p k row = cond (tells_more p) (codes "\n" ++ (told_parts p k row ++ codes "\n")) []
+beneath p k row = ranks_part p k ++ (outcome_part p row.shows.told ++ (lines_bytes (left_part p row.shows) ++ lines_bytes (looks_part p k)))
 
-abbrev pub row_bytes : Widths → Page → ℕ → ClassRow → List ℕ
-row_bytes w p k row = lines_bytes (row_lines w p (k + 1) row) ++ beneath p k row
+abbrev pub row_bytes : TableWidths → Page → ℕ → ClassRow → List ℕ
+row_bytes w p k row = line_bytes (row_line w p (k + 1) row) ++ beneath p k row
 
 -- the rows from this place on: the class at place k has the number k + 1
-abbrev pub rows_bytes : Widths → Page → ℕ → List ClassRow → List ℕ
+abbrev pub rows_bytes : TableWidths → Page → ℕ → List ClassRow → List ℕ
 rows_bytes w p k [] = []
 rows_bytes w p k (row ∷ rows) = row_bytes w p k row ++ rows_bytes w p (k + 1) rows
 
-abbrev pub key : List ℕ
-key = codes "the order of the least rank, with marks: : waits   ! fails   - is not sent"
+abbrev pub head_bytes : TableWidths → Page → List ℕ
+head_bytes w p = codes "\n" ++ line_bytes (table_head w p.by p.all_orders)
 
-abbrev pub head_bytes : Widths → Page → List ℕ
-head_bytes w p = codes "\n" ++ line_bytes (table_head w p.by)
-
--- behind an empty line, which may stand beneath the last class
-abbrev pub key_bytes : Page → List ℕ
-key_bytes p = cond (tells_more p) [] (codes "\n") ++ (key ++ codes "\n")
-
-abbrev pub table_bytes : Widths → Page → List ℕ
-table_bytes w p = head_bytes w p ++ (rows_bytes w p 0 p.rows ++ key_bytes p)
+abbrev pub table_bytes : TableWidths → Page → List ℕ
+table_bytes w p = head_bytes w p ++ (rows_bytes w p 0 p.rows ++ lines_bytes (part (legend_lines p.steps p.rows)))
 
 -- there is no table without rows, and none where the totals are told alone
 abbrev pub has_no_table : Page → Bool
 has_no_table p = p.is_brief || (length p.rows == 0)
 
-abbrev pub table_part : Widths → Page → List ℕ
-table_part w p = cond (has_no_table p) [] (table_bytes w p)
-
-abbrev pub bytes_by : Widths → Page → List ℕ
-bytes_by w p = lines_bytes (top_lines w p) ++ table_part w p
+abbrev pub table_part : Page → List ℕ
+table_part p = cond (has_no_table p) [] (table_bytes (table_widths p.by p.totals.all.orders p.rows) p)
 
 abbrev pub page_bytes : Page → List ℕ
-page_bytes p = bytes_by (widths p) p
+page_bytes p = lines_bytes (top_lines p) ++ table_part p

@@ -1,25 +1,22 @@
 //! What is expected of orders, and of how many it is so.
 
-ghost use Rattle.std.specs.Prelude.{◌≡◌, ◌++◌, IfOk, MatchOption, OnOk, codes, decimal, flat_map, None as no_miss, Some as a_miss};
+ghost use Rattle.std.specs.Prelude.{◌≡◌, ◌++◌, ℕ, IfOk, MatchOption, OnOk, flat_map, map, None as no_miss, Some as a_miss};
 ghost use Rattle.std.specs.List.{list_all};
-ghost use Rattle.shown_texts.specs.Characters.{shown_text};
-ghost use Rattle.shown_texts.specs.Pages.{hanging_lines};
-ghost use Rattle.class_texts.specs.Counted.{counted};
 ghost use Rattle.class_texts.specs.Expected as spec;
 
-use crate::looks::{put_events, seen_at};
-use crate::orders::put_steps;
-use crate::totals::put_counted;
+use crate::counted::{put_counted, put_in_threes, put_number_text};
+use crate::looks::seen_at;
+use crate::orders::put_order;
+use crate::rows::{has_failed, put_row, put_words, rows_of};
 use events::{Event, are_same_values};
 use itoa::Buffer;
 use lock_modes::{Text, Value};
 use order_classes::ClassRow;
-use shown_texts::{
-    COLUMNS, broken, hanging_lines, put, put_line, put_number, put_shown, values_line,
-};
+use shown_texts::{put, put_number, put_shown};
 use sqlite_items::Items;
 use std::alloc::{AllocError, Global};
 use std::marker::Model;
+use std::slice::from_ref;
 
 /// What is expected: that a SELECT sees one row of what an order leaves, with these values.
 #[derive(Drop)]
@@ -80,7 +77,7 @@ fn meets(values: &[Value], events: &[Event]) -> bool
 }
 
 impl Expected<'_> {
-    /// Whether it is so of all classes.
+    /// Whether it holds of all classes.
     pub fn is_met(&self) -> bool
         ensures { result ≡ spec.is_met self.now }
     {
@@ -94,14 +91,14 @@ fn are_met(values: &[Value], seen: &[Vec<Event>]) -> bool
     seen.iter().all(|events: &Vec<Event>| meets(values, events))
 }
 
-/// Whether it is so of the class at a place.
+/// Whether it holds of the class at a place.
 fn is_met_at(expected: &Expected<'_>, place: usize) -> bool
     ensures { result ≡ spec.is_met_at expected.now place }
 {
     meets(expected.values, seen_at(&expected.seen, place))
 }
 
-/// The orders of the class at a place, if it is so of them.
+/// The orders of the class at a place, if it holds of them.
 fn met_at(expected: &Expected<'_>, place: usize, row: &ClassRow) -> u64
     ensures { result ≡ spec.met_at expected.now place row.now }
 {
@@ -111,7 +108,7 @@ fn met_at(expected: &Expected<'_>, place: usize, row: &ClassRow) -> u64
     0
 }
 
-/// The orders of which it is so.
+/// The orders of which it holds.
 pub fn met_of(expected: &Expected<'_>, rows: &[ClassRow]) -> u128
     ensures { result ≡ spec.met_from expected.now 0 rows.now }
 {
@@ -123,83 +120,7 @@ pub fn met_of(expected: &Expected<'_>, rows: &[ClassRow]) -> u128
     met
 }
 
-/// Puts a SELECT as it was given, and values, behind a line.
-fn put_asked(line: &mut Items<char>, text: &str, values: &[char]) -> Result<(), AllocError>
-    ensures { OnOk result (line.new ≡ line.old ++ (shown_text text.now ++ (codes ": " ++ values.now))) }
-{
-    put_shown(line, text)?;
-    put(line, ": ")?;
-    put_line(line, values)
-}
-
-fn expected_text(alloc: Global, expected: &Expected<'_>) -> Result<Items<char>, AllocError>
-    ensures { IfOk result (λ line. line ≡ spec.expected_text expected.now) }
-{
-    let values = values_line(alloc, expected.values)?;
-    let mut line = Items::new(alloc);
-    put(&mut line, "expected of ")?;
-    put_asked(&mut line, expected.text, values.as_slice())?;
-    Ok(line)
-}
-
-/// Of how many of so many orders it is so.
-fn so_line(alloc: Global, met: u128, orders: u64) -> Result<Items<char>, AllocError>
-    ensures { IfOk result (λ line. line ≡ spec.so_line met orders) }
-{
-    let mut line = Items::new(alloc);
-    put(&mut line, "  so in ")?;
-    put_met(&mut line, met, orders)?;
-    Ok(line)
-}
-
-fn put_met(line: &mut Items<char>, met: u128, orders: u64) -> Result<(), AllocError>
-    ensures { OnOk result (line.new ≡ line.old ++ (decimal met ++ (codes " of " ++ counted orders (codes "order") (codes "orders")))) }
-{
-    put(line, Buffer::new().format(met))?;
-    put(line, " of ")?;
-    put_counted(line, orders, "order", "orders")
-}
-
-fn put_rank(line: &mut Items<char>, rank: u64) -> Result<(), AllocError>
-    ensures { OnOk result (line.new ≡ line.old ++ (codes "first not so at rank " ++ (decimal rank ++ codes ":"))) }
-{
-    put(line, "first not so at rank ")?;
-    put_number(line, rank)?;
-    put(line, ":")
-}
-
-/// The order of the least rank of a class of which it is not so.
-fn miss_text(alloc: Global, steps: &[Text], row: &ClassRow) -> Result<Items<char>, AllocError>
-    ensures { IfOk result (λ line. line ≡ spec.miss_text steps.now row.now) }
-{
-    let mut line = Items::new(alloc);
-    put_rank(&mut line, row.least)?;
-    put_steps(
-        alloc,
-        &mut line,
-        steps,
-        row.shows.told.sessions(),
-        row.line.as_slice(),
-    )?;
-    Ok(line)
-}
-
-/// Puts a class of which it is not so, and what is seen there, behind other lines.
-fn put_miss(
-    alloc: Global,
-    lines: &mut Items<Items<char>>,
-    steps: &[Text],
-    row: &ClassRow,
-    events: &[Event],
-) -> Result<(), AllocError>
-    ensures { OnOk result (lines.new ≡ lines.old ++ spec.miss_lines steps.now row.now events.now) }
-{
-    let text = miss_text(alloc, steps, row)?;
-    lines.append(broken(alloc, COLUMNS, 2, 4, text.as_slice())?)?;
-    put_events(alloc, lines, 4, steps, events)
-}
-
-/// The first class of which it is not so, with what is seen there.
+/// The first class of which it does not hold, with what is seen there.
 pub fn first_miss<'a>(
     expected: &'a Expected<'_>,
     rows: &'a [ClassRow],
@@ -215,34 +136,195 @@ pub fn first_miss<'a>(
     None
 }
 
-/// Puts the first class of which it is not so, if there is one, behind other lines.
-fn put_first_miss(
-    alloc: Global,
-    lines: &mut Items<Items<char>>,
-    steps: &[Text],
-    expected: &Expected<'_>,
-    rows: &[ClassRow],
-) -> Result<(), AllocError>
-    ensures { OnOk result (lines.new ≡ lines.old ++ spec.miss_from steps.now expected.now 0 rows.now) }
+/// The orders of the class at a place, unless it holds of them.
+fn missed_at(expected: &Expected<'_>, place: usize, row: &ClassRow) -> u64
+    ensures { result ≡ spec.missed_at expected.now place row.now }
 {
-    match first_miss(expected, rows) {
+    if is_met_at(expected, place) {
+        return 0;
+    }
+    row.count
+}
+
+/// The orders of which it does not hold.
+fn missed_of(expected: &Expected<'_>, rows: &[ClassRow]) -> u128
+    ensures { result ≡ spec.missed_from expected.now 0 rows.now }
+{
+    let mut missed = 0_u128;
+    for place in 0..rows.len() {
+        missed += u128::from(missed_at(expected, place, &rows[place]));
+    }
+    missed
+}
+
+fn put_value(alloc: Global, line: &mut Items<char>, value: &Value) -> Result<(), AllocError>
+    ensures { OnOk result (line.new ≡ line.old ++ spec.value_text value.now) }
+{
+    put_row(alloc, line, from_ref(value))
+}
+
+fn put_other_values(
+    alloc: Global,
+    line: &mut Items<char>,
+    values: &[Value],
+) -> Result<(), AllocError>
+    ensures { OnOk result (line.new ≡ line.old ++ flat_map spec.behind_value values.now) }
+{
+    for value in values {
+        put(line, ", ")?;
+        put_value(alloc, line, value)?;
+    }
+    Ok(())
+}
+
+fn put_values(alloc: Global, line: &mut Items<char>, values: &[Value]) -> Result<(), AllocError>
+    ensures { OnOk result (line.new ≡ line.old ++ spec.values_text values.now) }
+{
+    match values.split_first() {
         None => Ok(()),
-        Some((row, events)) => put_miss(alloc, lines, steps, row, events),
+        Some((first, others)) => {
+            put_value(alloc, line, first)?;
+            put_other_values(alloc, line, others)
+        }
     }
 }
 
-fn put_expected_text(
-    alloc: Global,
-    lines: &mut Items<Items<char>>,
-    expected: &Expected<'_>,
-) -> Result<(), AllocError>
-    ensures { OnOk result (lines.new ≡ lines.old ++ hanging_lines (spec.expected_text expected.now)) }
+/// What is expected, in words.
+fn expected_text(alloc: Global, expected: &Expected<'_>) -> Result<Items<char>, AllocError>
+    ensures { IfOk result (λ line. line ≡ spec.expected_text expected.now) }
 {
-    let text = expected_text(alloc, expected)?;
-    lines.append(hanging_lines(alloc, text.as_slice())?)
+    let mut line = Items::new(alloc);
+    put(&mut line, "expect ")?;
+    put_shown(&mut line, expected.text)?;
+    put(&mut line, " = ")?;
+    put_values(alloc, &mut line, expected.values)?;
+    Ok(line)
 }
 
-/// Puts what is expected, and of how many of so many orders in these classes it is so, behind other lines.
+/// Puts so many of so many orders behind a line.
+fn put_of_orders(line: &mut Items<char>, number: u128, orders: u64) -> Result<(), AllocError>
+    ensures { OnOk result (line.new ≡ line.old ++ spec.of_orders number orders) }
+{
+    put_in_threes(line, Buffer::new().format(number).as_bytes())?;
+    put(line, " of ")?;
+    put_counted(line, orders, "order", "orders")
+}
+
+/// Puts what is seen in place of the one row behind a line.
+fn put_found_rows(
+    alloc: Global,
+    line: &mut Items<char>,
+    rows: &[&[Value]],
+) -> Result<(), AllocError>
+    ensures { OnOk result (line.new ≡ line.old ++ spec.found_rows (map (λ r. r.now) rows.now)) }
+{
+    match rows {
+        [] => put(line, "no row"),
+        [row] => put_row(alloc, line, row),
+        [row, _, ..] => put_several(alloc, line, rows.len(), row),
+    }
+}
+
+fn put_several(
+    alloc: Global,
+    line: &mut Items<char>,
+    number: usize,
+    first: &[Value],
+) -> Result<(), AllocError>
+    ensures { OnOk result (line.new ≡ line.old ++ spec.several_rows number first.now) }
+{
+    put_number_text(line, number as u64)?;
+    put(line, " rows, first ")?;
+    put_row(alloc, line, first)
+}
+
+fn put_found(
+    alloc: Global,
+    line: &mut Items<char>,
+    steps: &[Text],
+    events: &[Event],
+) -> Result<(), AllocError>
+    ensures { OnOk result (line.new ≡ line.old ++ spec.found_text steps.now events.now) }
+{
+    if has_failed(events) {
+        return put_words(alloc, line, steps, events);
+    }
+    let rows = rows_of(alloc, events)?;
+    put_found_rows(alloc, line, rows.as_slice())
+}
+
+fn failed_line(alloc: Global, missed: u128, orders: u64) -> Result<Items<char>, AllocError>
+    ensures { IfOk result (λ line. line ≡ spec.failed_line missed orders) }
+{
+    let mut line = Items::new(alloc);
+    put(&mut line, "  FAILED in ")?;
+    put_of_orders(&mut line, missed, orders)?;
+    Ok(line)
+}
+
+fn put_rank(line: &mut Items<char>, rank: u64) -> Result<(), AllocError>
+    ensures { OnOk result (line.new ≡ line.old ++ spec.rank_text rank) }
+{
+    put(line, "    (rank ")?;
+    put_number(line, rank)?;
+    put(line, ")")
+}
+
+/// The first order of a class.
+fn first_line(alloc: Global, steps: &[Text], row: &ClassRow) -> Result<Items<char>, AllocError>
+    ensures { IfOk result (λ line. line ≡ spec.first_line steps.now row.now) }
+{
+    let mut line = Items::new(alloc);
+    put(&mut line, "  first:")?;
+    put_order(
+        alloc,
+        &mut line,
+        steps,
+        row.shows.told.sessions(),
+        row.line.as_slice(),
+    )?;
+    put_rank(&mut line, row.least)?;
+    Ok(line)
+}
+
+fn found_line(alloc: Global, steps: &[Text], events: &[Event]) -> Result<Items<char>, AllocError>
+    ensures { IfOk result (λ line. line ≡ spec.found_line steps.now events.now) }
+{
+    let mut line = Items::new(alloc);
+    put(&mut line, "  found: ")?;
+    put_found(alloc, &mut line, steps, events)?;
+    Ok(line)
+}
+
+/// Puts a class of which it does not hold, and what is seen there, behind other lines.
+fn put_miss(
+    alloc: Global,
+    lines: &mut Items<Items<char>>,
+    steps: &[Text],
+    row: &ClassRow,
+    events: &[Event],
+) -> Result<(), AllocError>
+    ensures { OnOk result (lines.new ≡ lines.old ++ spec.miss_lines steps.now row.now events.now) }
+{
+    lines.push(first_line(alloc, steps, row)?)?;
+    lines.push(found_line(alloc, steps, events)?)
+}
+
+/// Puts that it holds behind what is expected.
+fn holds_line(
+    alloc: Global,
+    orders: u64,
+    expected: &Expected<'_>,
+) -> Result<Items<char>, AllocError>
+    ensures { IfOk result (λ line. line ≡ spec.holds_line orders expected.now) }
+{
+    let mut line = expected_text(alloc, expected)?;
+    put(&mut line, ": holds in ")?;
+    put_of_orders(&mut line, u128::from(orders), orders)?;
+    Ok(line)
+}
+
+/// Puts what is expected, and whether it holds of all of so many orders in these classes, behind other lines.
 fn put_expected(
     alloc: Global,
     lines: &mut Items<Items<char>>,
@@ -253,9 +335,42 @@ fn put_expected(
 ) -> Result<(), AllocError>
     ensures { OnOk result (lines.new ≡ lines.old ++ spec.expected_lines steps.now orders rows.now expected.now) }
 {
-    put_expected_text(alloc, lines, expected)?;
-    lines.push(so_line(alloc, met_of(expected, rows), orders)?)?;
-    put_first_miss(alloc, lines, steps, expected, rows)
+    match first_miss(expected, rows) {
+        None => lines.push(holds_line(alloc, orders, expected)?),
+        Some((row, events)) => {
+            put_failed(alloc, lines, steps, orders, rows, expected, row, events)
+        }
+    }
+}
+
+/// Puts what is expected, of how many orders it does not hold, and the first class of these, behind other lines.
+fn put_failed(
+    alloc: Global,
+    lines: &mut Items<Items<char>>,
+    steps: &[Text],
+    orders: u64,
+    rows: &[ClassRow],
+    expected: &Expected<'_>,
+    row: &ClassRow,
+    events: &[Event],
+) -> Result<(), AllocError>
+    ensures { OnOk result (lines.new ≡ lines.old ++ spec.failed_lines steps.now orders rows.now expected.now row.now events.now) }
+{
+    put_missed(alloc, lines, orders, rows, expected)?;
+    put_miss(alloc, lines, steps, row, events)
+}
+
+fn put_missed(
+    alloc: Global,
+    lines: &mut Items<Items<char>>,
+    orders: u64,
+    rows: &[ClassRow],
+    expected: &Expected<'_>,
+) -> Result<(), AllocError>
+    ensures { OnOk result (lines.new ≡ lines.old ++ spec.missed_lines orders rows.now expected.now) }
+{
+    lines.push(expected_text(alloc, expected)?)?;
+    lines.push(failed_line(alloc, missed_of(expected, rows), orders)?)
 }
 
 /// All that is expected of so many orders in these classes, in lines.

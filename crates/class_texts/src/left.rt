@@ -1,17 +1,33 @@
-//! What the orders of a class leave.
+//! The final rows of a class.
 
 ghost use Rattle.std.specs.Prelude.{◌≡◌, ◌++◌, [], IfOk, OnOk, get_or};
-ghost use Rattle.shown_texts.specs.Characters.{shown_text};
-ghost use Rattle.shown_texts.specs.Pages.{standing_lines};
 ghost use Rattle.class_texts.specs.Beneath as spec;
 
 use crate::kind::ClassKind;
+use crate::rows::{put_rows, values_of};
 use binding_model::Table;
 use lock_modes::{Row, Text, Value};
 use order_classes::{Rest, Shows};
-use shown_texts::{put, put_left_in, put_shown, put_standing};
+use shown_texts::{put, put_shown};
 use sqlite_items::Items;
 use std::alloc::{AllocError, Global};
+
+/// What stands beneath a class stands behind so many blanks.
+#[tactic(auto, unfolding(crate::specs::Beneath::margin))]
+pub(crate) fn margin() -> &'static str
+    ensures { result.now ≡ spec.margin }
+{
+    "          "
+}
+
+/// A line that begins with the margin.
+pub(crate) fn begun(alloc: Global) -> Result<Items<char>, AllocError>
+    ensures { IfOk result (λ line. line ≡ spec.margin) }
+{
+    let mut line = Items::new(alloc);
+    put(&mut line, margin())?;
+    Ok(line)
+}
 
 /// The rows of the table at a place, or none where there is no such place.
 pub fn rows_at(left: &[Items<(Value, Row)>], table: usize) -> &[(Value, Row)]
@@ -23,22 +39,36 @@ pub fn rows_at(left: &[Items<(Value, Row)>], table: usize) -> &[(Value, Row)]
     }
 }
 
-/// Puts each table, and the rows that are left in it, behind other lines.
-fn put_tables(
+fn table_line(
+    alloc: Global,
+    margin: &str,
+    table: &Table,
+    rows: &[(Value, Row)],
+) -> Result<Items<char>, AllocError>
+    ensures { IfOk result (λ line. line ≡ spec.table_line margin.now table.now rows.now) }
+{
+    let values = values_of(alloc, rows)?;
+    let mut line = Items::new(alloc);
+    put(&mut line, margin)?;
+    put_shown(&mut line, table.name.as_str())?;
+    put(&mut line, ": ")?;
+    put_rows(alloc, &mut line, values.as_slice())?;
+    Ok(line)
+}
+
+/// Puts each table with its final rows, behind a margin, behind other lines.
+pub(crate) fn put_tables(
     alloc: Global,
     lines: &mut Items<Items<char>>,
+    margin: &str,
     tables: &[Table],
     left: &[Items<(Value, Row)>],
 ) -> Result<(), AllocError>
-    ensures { OnOk result (lines.new ≡ lines.old ++ spec.tables_from left.now 0 tables.now) }
+    ensures { OnOk result (lines.new ≡ lines.old ++ spec.tables_from margin.now left.now 0 tables.now) }
 {
     for table in 0..tables.len() {
-        put_left_in(
-            alloc,
-            lines,
-            tables[table].name.as_str(),
-            rows_at(left, table),
-        )?;
+        let line = table_line(alloc, margin, &tables[table], rows_at(left, table))?;
+        lines.push(line)?;
     }
     Ok(())
 }
@@ -56,7 +86,7 @@ fn rest_text(rest: Rest) -> &'static str
 }
 
 /// The name of a session, or none where there is no such session.
-fn session_name(sessions: &[Text], session: usize) -> &str
+pub(crate) fn session_name(sessions: &[Text], session: usize) -> &str
     ensures { result.now ≡ get_or sessions.now session [] }
 {
     match sessions.get(session) {
@@ -72,11 +102,15 @@ fn put_rest(
     name: &str,
     text: &str,
 ) -> Result<(), AllocError>
-    ensures { OnOk result (lines.new ≡ lines.old ++ standing_lines (shown_text name.now) text.now) }
+    ensures { OnOk result (lines.new ≡ lines.old ++ spec.rest_lines name.now text.now) }
 {
-    let mut shown = Items::new(alloc);
-    put_shown(&mut shown, name)?;
-    put_standing(alloc, lines, shown.as_slice(), text)
+    if text.is_empty() {
+        return Ok(());
+    }
+    let mut line = begun(alloc)?;
+    put_shown(&mut line, name)?;
+    put(&mut line, text)?;
+    lines.push(line)
 }
 
 fn put_rests(
@@ -98,7 +132,7 @@ fn put_rests(
     Ok(())
 }
 
-/// Puts how sessions stand behind other lines, where orders are grouped by all that they show.
+/// Puts how sessions stand behind other lines, unless orders are grouped by their results.
 fn put_rests_by(
     alloc: Global,
     lines: &mut Items<Items<char>>,
@@ -119,14 +153,14 @@ fn put_nothing(alloc: Global, lines: &mut Items<Items<char>>) -> Result<(), Allo
     ensures { OnOk result (lines.new ≡ spec.or_nothing lines.old) }
 {
     if lines.is_empty() {
-        let mut line = Items::new(alloc);
+        let mut line = begun(alloc)?;
         put(&mut line, "nothing")?;
         lines.push(line)?;
     }
     Ok(())
 }
 
-/// What is left where this is shown, in lines.
+/// The final rows where this is shown, and how sessions stand, in lines.
 pub(crate) fn left_lines(
     alloc: Global,
     by: ClassKind,
@@ -137,7 +171,7 @@ pub(crate) fn left_lines(
     ensures { IfOk result (λ lines. lines ≡ spec.left_lines by tables.now sessions.now shows.now) }
 {
     let mut lines = Items::new(alloc);
-    put_tables(alloc, &mut lines, tables, shows.left.as_slice())?;
+    put_tables(alloc, &mut lines, margin(), tables, shows.left.as_slice())?;
     put_rests_by(alloc, &mut lines, by, sessions, shows.rests.as_slice())?;
     put_nothing(alloc, &mut lines)?;
     Ok(lines)

@@ -1,6 +1,6 @@
 //! What an order may show, by a letter each.
 
-ghost use Rattle.std.specs.Prelude.{◌≡◌, ◌++◌, IfOk, OnOk, length, string_bytes};
+ghost use Rattle.std.specs.Prelude.{◌≡◌, IfOk, string_bytes};
 ghost use Rattle.class_texts.specs.Letters as spec;
 
 use crate::kind::ClassKind;
@@ -12,19 +12,19 @@ use std::alloc::{AllocError, Global};
 pub enum Letter {
     /// W: a session waits.
     Waits,
-    /// D: a session loses a deadlock.
+    /// D: a session is the victim of a deadlock.
     Deadlock,
-    /// E: a session is told of another error of its own.
+    /// E: another error.
     Error,
     /// N: a step is not sent.
     Unsent,
-    /// S: a session still waits at the end.
+    /// S: a session waits for ever.
     Stuck,
     /// R: an anomaly.
     NotSerial,
 }
 
-static OF_SHOWS: [Letter; 6] = [
+static OF_ALL: [Letter; 6] = [
     Letter::Waits,
     Letter::Deadlock,
     Letter::Error,
@@ -33,7 +33,15 @@ static OF_SHOWS: [Letter; 6] = [
     Letter::NotSerial,
 ];
 
-static OF_ANSWERS: [Letter; 4] = [
+static OF_SENT: [Letter; 5] = [
+    Letter::Waits,
+    Letter::Deadlock,
+    Letter::Error,
+    Letter::Stuck,
+    Letter::NotSerial,
+];
+
+static OF_RESULTS: [Letter; 4] = [
     Letter::Deadlock,
     Letter::Error,
     Letter::Stuck,
@@ -47,15 +55,22 @@ static OF_OUTCOMES: [Letter; 4] = [
     Letter::Unsent,
 ];
 
-/// The letters that are told, in their order.
-pub fn letters_of(by: ClassKind) -> &'static [Letter]
-    ensures { result.now ≡ spec.letters_of by }
+/// The letters that have a place, in their order, where all permutations are counted or those orders alone that clients can send.
+pub fn letters_of(by: ClassKind, all_orders: bool) -> &'static [Letter]
+    ensures { result.now ≡ spec.letters_of by all_orders }
 {
     match by {
-        ClassKind::Shows => &OF_SHOWS,
-        ClassKind::Answers => &OF_ANSWERS,
+        ClassKind::Shows => letters_of_all(all_orders),
+        ClassKind::Answers => &OF_RESULTS,
         ClassKind::Outcomes => &OF_OUTCOMES,
     }
+}
+
+/// The letters of classes: a step is not sent only where all permutations are counted.
+fn letters_of_all(all_orders: bool) -> &'static [Letter]
+    ensures { result.now ≡ spec.letters_of_all all_orders }
+{
+    if all_orders { &OF_ALL } else { &OF_SENT }
 }
 
 impl Letter {
@@ -78,11 +93,11 @@ impl Letter {
     {
         match self {
             Letter::Waits => "a session waits",
-            Letter::Deadlock => "a session loses a deadlock",
-            Letter::Error => "another error of its own",
-            Letter::Unsent => "a step is not sent, since its session waits",
-            Letter::Stuck => "a session still waits at the end",
-            Letter::NotSerial => "anomaly: no serial order gives this result",
+            Letter::Deadlock => "a session is the victim of a deadlock",
+            Letter::Error => "another error",
+            Letter::Unsent => "a step is not sent: its session waits",
+            Letter::Stuck => "a session waits for ever",
+            Letter::NotSerial => "anomaly: no error, yet no serial order gives this result",
         }
     }
 
@@ -113,24 +128,29 @@ impl Letter {
         }
     }
 
-    /// The letter where it is shown, and a dash in its place where it is not.
+    /// The letter where it is shown, and a dot in its place where it is not.
     fn sign_in(self, letters: Letters) -> &'static str
         ensures { result.now ≡ spec.sign_in letters self }
     {
         if self.is_in(letters) {
             self.sign()
         } else {
-            "-"
+            "."
         }
     }
 }
 
-/// The letters that are told, each in its place.
-pub fn letters_text(alloc: Global, by: ClassKind, letters: Letters) -> Result<String, AllocError>
-    ensures { IfOk result (λ text. string_bytes text ≡ spec.letters_text by letters) }
+/// The letters that are shown, each in its place.
+pub fn letters_text(
+    alloc: Global,
+    by: ClassKind,
+    all_orders: bool,
+    letters: Letters,
+) -> Result<String, AllocError>
+    ensures { IfOk result (λ text. string_bytes text ≡ spec.letters_text by all_orders letters) }
 {
     let mut text = String::new(alloc);
-    for letter in letters_of(by) {
+    for letter in letters_of(by, all_orders) {
         text.push_str(letter.sign_in(letters))?;
     }
     Ok(text)

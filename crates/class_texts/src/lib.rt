@@ -1,12 +1,15 @@
-//! The text of classes: how many orders of a spec show what, and the classes with their least orders.
+//! The text of classes: how many orders of a spec show what, and the classes with their first orders.
 #![tactic(auto)]
 
 mod beneath;
 mod columns;
+mod counted;
 mod expected;
+mod head;
 mod kind;
 mod laws;
 mod left;
+mod legend;
 mod letters;
 mod looks;
 mod marks;
@@ -15,6 +18,8 @@ mod outcomes;
 mod page;
 mod pages;
 mod ranks;
+mod records;
+mod rows;
 mod shares;
 mod table;
 mod totals;
@@ -22,10 +27,7 @@ mod widths;
 
 pub use expected::{Expected, first_miss, met_of};
 pub use kind::ClassKind;
-pub use laws::{
-    left_is_shown, letters_are_told, misses_are_told, one_row_is_met, orders_are_whole,
-    tables_are_narrow, totals_are_narrow,
-};
+pub use laws::{letters_are_told, misses_are_told, one_row_is_met, standings_are_shown};
 pub use left::rows_at;
 pub use letters::{Letter, letters_of, letters_text};
 pub use looks::{Looked, seen_at};
@@ -33,3 +35,4 @@ pub use marks::{Marks, marks_of};
 pub use page::Page;
 pub use pages::classes_text;
 pub use ranks::runs_at;
+pub use records::{MAX_RECORDED, record_text};

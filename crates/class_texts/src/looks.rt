@@ -1,16 +1,18 @@
-//! What SELECTs see of what is left.
+//! What queries see of final rows.
 
-ghost use Rattle.std.specs.Prelude.{◌≡◌, ◌++◌, [], IfOk, OnOk, flat_map, get_or, map};
+ghost use Rattle.std.specs.Prelude.{◌≡◌, [], IfOk, get_or, map};
 ghost use Rattle.class_texts.specs.Beneath as spec;
 
+use crate::left::begun;
+use crate::rows::put_seen;
 use events::Event;
 use lock_modes::Text;
-use shown_texts::{COLUMNS, broken, hanging_lines, put, put_shown, words_of};
+use shown_texts::{put, put_shown};
 use sqlite_items::Items;
 use std::alloc::{AllocError, Global};
 use std::marker::Model;
 
-/// What a SELECT sees of what the orders of each class leave.
+/// What a query sees of the final rows of each class.
 #[derive(Drop)]
 pub struct Looked<'a> {
     /// The SELECT as it was given.
@@ -42,76 +44,35 @@ pub fn seen_at(seen: &[Vec<Event>], place: usize) -> &[Event]
     }
 }
 
-/// Puts an event in its words, behind so many blanks, behind other lines.
-fn put_event(
+/// What a query sees of the class at a place.
+fn look_line(
     alloc: Global,
-    lines: &mut Items<Items<char>>,
-    front: u8,
-    steps: &[Text],
-    event: &Event,
-) -> Result<(), AllocError>
-    ensures { OnOk result (lines.new ≡ lines.old ++ spec.event_lines front steps.now event.now) }
-{
-    let words = words_of(alloc, steps, event)?;
-    let front = usize::from(front);
-    lines.append(broken(alloc, COLUMNS, front, front + 2, words.as_slice())?)
-}
-
-pub(crate) fn put_events(
-    alloc: Global,
-    lines: &mut Items<Items<char>>,
-    front: u8,
-    steps: &[Text],
-    events: &[Event],
-) -> Result<(), AllocError>
-    ensures { OnOk result (lines.new ≡ lines.old ++ spec.events_lines front steps.now events.now) }
-{
-    for event in events {
-        put_event(alloc, lines, front, steps, event)?;
-    }
-    Ok(())
-}
-
-/// Puts a SELECT as it was given behind other lines.
-fn put_look_head(
-    alloc: Global,
-    lines: &mut Items<Items<char>>,
-    text: &str,
-) -> Result<(), AllocError>
-    ensures { OnOk result (lines.new ≡ lines.old ++ spec.look_head text.now) }
-{
-    let mut line = Items::new(alloc);
-    put(&mut line, "look ")?;
-    put_shown(&mut line, text)?;
-    lines.append(hanging_lines(alloc, line.as_slice())?)
-}
-
-/// Puts what a SELECT sees of the class at a place behind other lines.
-fn put_look(
-    alloc: Global,
-    lines: &mut Items<Items<char>>,
     steps: &[Text],
     place: usize,
     look: &Looked<'_>,
-) -> Result<(), AllocError>
-    ensures { OnOk result (lines.new ≡ lines.old ++ spec.look_lines steps.now place look.now) }
+) -> Result<Items<char>, AllocError>
+    ensures { IfOk result (λ line. line ≡ spec.look_line steps.now place look.now) }
 {
-    put_look_head(alloc, lines, look.text)?;
-    put_events(alloc, lines, 2, steps, seen_at(&look.seen, place))
+    let mut line = begun(alloc)?;
+    put(&mut line, "query ")?;
+    put_shown(&mut line, look.text)?;
+    put(&mut line, ": ")?;
+    put_seen(alloc, &mut line, steps, seen_at(&look.seen, place))?;
+    Ok(line)
 }
 
-/// What each SELECT sees of the class at a place, in lines.
+/// What each query sees of the class at a place, in lines.
 pub(crate) fn looks_lines(
     alloc: Global,
     steps: &[Text],
     place: usize,
     looks: &[Looked<'_>],
 ) -> Result<Items<Items<char>>, AllocError>
-    ensures { IfOk result (λ lines. lines ≡ flat_map (spec.look_lines steps.now place) looks.now) }
+    ensures { IfOk result (λ lines. lines ≡ map (spec.look_line steps.now place) looks.now) }
 {
     let mut lines = Items::new(alloc);
     for look in looks {
-        put_look(alloc, &mut lines, steps, place, look)?;
+        lines.push(look_line(alloc, steps, place, look)?)?;
     }
     Ok(lines)
 }

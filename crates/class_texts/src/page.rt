@@ -17,6 +17,8 @@ pub struct Page<'a> {
     pub path: &'a str,
     /// How many orders the spec has.
     pub orders: u64,
+    /// All permutations are counted, and not those orders alone that clients can send.
+    pub all_orders: bool,
     /// The names of the sessions.
     pub sessions: &'a [Text],
     /// The names of the steps, over all sessions.
@@ -27,8 +29,12 @@ pub struct Page<'a> {
     pub by: ClassKind,
     /// The orders of the page are not all that the spec has.
     pub is_filtered: bool,
+    /// The filters by which they are not, as words; empty where there are none.
+    pub filters: &'a str,
     /// The orders that are missing, where any are.
     pub missing: Option<Missing>,
+    /// The lines of the file with an isolation level that has no effect.
+    pub level_lines: &'a [usize],
     /// What is expected of the orders.
     pub expectations: &'a [Expected<'a>],
     /// How many orders and classes show what. Those of the page are `totals.all`.
@@ -41,11 +47,11 @@ pub struct Page<'a> {
     pub with_ranks: bool,
     /// The ranks of the classes, in the order of the rows.
     pub ranks: &'a [Items<RankRun>],
-    /// With the outcome text of each least order.
+    /// With what the first order of each class tells each session.
     pub with_outcomes: bool,
-    /// With what each class leaves.
+    /// With the final rows of each class.
     pub with_left: bool,
-    /// What SELECTs see of what each class leaves.
+    /// What queries see of the final rows of each class.
     pub looks: &'a [Looked<'a>],
 }
 
@@ -65,12 +71,15 @@ impl<'a> Model for Page<'a> {
     ghost view = { λ p. record {
       path = p.path.now;
       orders = p.orders;
+      all_orders = p.all_orders;
       sessions = p.sessions.now;
       steps = p.steps.now;
       tables = p.tables.now;
       by = p.by;
       is_filtered = p.is_filtered;
+      filters = p.filters.now;
       missing = p.missing;
+      level_lines = p.level_lines.now;
       expectations = p.expectations.now;
       totals = p.totals;
       rows = p.rows.now;

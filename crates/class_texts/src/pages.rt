@@ -6,7 +6,6 @@ ghost use Rattle.class_texts.specs.Pages as spec;
 use crate::page::Page;
 use crate::table::push_table;
 use crate::totals::top_lines;
-use crate::widths::{Widths, widths_of};
 use shown_texts::push_lines;
 use std::alloc::{AllocError, Global};
 
@@ -15,31 +14,15 @@ pub fn classes_text(alloc: Global, page: &Page<'_>) -> Result<String, AllocError
     ensures { IfOk result (λ text. string_bytes text ≡ spec.page_bytes page.now) }
 {
     let mut text = String::new(alloc);
-    push_page(alloc, &mut text, widths_of(page), page)?;
+    push_top(alloc, &mut text, page)?;
+    push_table(alloc, &mut text, page)?;
     Ok(text)
 }
 
-fn push_page(
-    alloc: Global,
-    text: &mut String,
-    widths: Widths,
-    page: &Page<'_>,
-) -> Result<(), AllocError>
-    ensures { OnOk result (string_bytes text.new ≡ string_bytes text.old ++ spec.bytes_by widths page.now) }
+/// Puts the head and the totals behind a text.
+fn push_top(alloc: Global, text: &mut String, page: &Page<'_>) -> Result<(), AllocError>
+    ensures { OnOk result (string_bytes text.new ≡ string_bytes text.old ++ spec.lines_bytes (spec.top_lines page.now)) }
 {
-    push_top(alloc, text, widths, page)?;
-    push_table(alloc, text, widths, page)
-}
-
-/// Puts the title and the totals behind a text.
-fn push_top(
-    alloc: Global,
-    text: &mut String,
-    widths: Widths,
-    page: &Page<'_>,
-) -> Result<(), AllocError>
-    ensures { OnOk result (string_bytes text.new ≡ string_bytes text.old ++ spec.lines_bytes (spec.top_lines widths page.now)) }
-{
-    let lines = top_lines(alloc, widths, page)?;
+    let lines = top_lines(alloc, page)?;
     push_lines(text, lines.as_slice())
 }

@@ -3,8 +3,9 @@
 ghost use Rattle.std.specs.Prelude.{◌≡◌, ◌++◌, [], IfOk, OnOk, codes, decimal, flat_map, get_or};
 ghost use Rattle.class_texts.specs.Beneath as spec;
 
+use crate::left::begun;
 use class_stretches::RankRun;
-use shown_texts::{COLUMNS, broken, put, put_number};
+use shown_texts::{put, put_number};
 use sqlite_items::Items;
 use std::alloc::{AllocError, Global};
 
@@ -53,12 +54,12 @@ pub fn runs_at(ranks: &[Items<RankRun>], place: usize) -> &[RankRun]
     }
 }
 
-/// The ranks of a class in lines.
-pub(crate) fn ranks_lines(alloc: Global, runs: &[RankRun]) -> Result<Items<Items<char>>, AllocError>
-    ensures { IfOk result (λ lines. lines ≡ spec.ranks_lines runs.now) }
+/// The ranks of a class on a line.
+pub(crate) fn ranks_line(alloc: Global, runs: &[RankRun]) -> Result<Items<char>, AllocError>
+    ensures { IfOk result (λ line. line ≡ spec.margin ++ spec.ranks_text runs.now) }
 {
-    let mut line = Items::new(alloc);
+    let mut line = begun(alloc)?;
     put(&mut line, "ranks")?;
     put_ranges(&mut line, runs)?;
-    broken(alloc, COLUMNS, 0, 6, line.as_slice())
+    Ok(line)
 }

@@ -1,41 +1,44 @@
-//! Shares of all orders.
+//! Shares of the orders that are told of.
 
-ghost use Rattle.std.specs.Prelude.{◌≡◌, ◌++◌, IfOk, OnOk, string_bytes};
+ghost use Rattle.std.specs.Prelude.{◌≡◌, ◌++◌, IfOk, OnOk};
 ghost use Rattle.class_texts.specs.Pages as spec;
 
 use itoa::Buffer;
+use shown_texts::put;
+use sqlite_items::Items;
 use std::alloc::{AllocError, Global};
 
-/// Tenths of a per cent, cut off, but one at least.
+/// Tenths of a per cent, of which a half is rounded up.
 fn tenths(whole: u64, part: u64) -> u128
     ensures { result ≡ spec.tenths whole part }
 {
-    // A thousand times 64 bits is more than 64 bits hold.
-    (u128::from(part) * 1000 / u128::from(whole).max(1)).max(1)
+    // Two thousand times 64 bits is more than 64 bits hold.
+    (u128::from(part) * 2000 + u128::from(whole)) / (u128::from(whole) * 2).max(1)
 }
 
-fn push_tenths(text: &mut String, tenths: u128) -> Result<(), AllocError>
-    ensures { OnOk result (string_bytes text.new ≡ string_bytes text.old ++ spec.tenths_text tenths) }
+fn put_tenths(line: &mut Items<char>, tenths: u128) -> Result<(), AllocError>
+    ensures { OnOk result (line.new ≡ line.old ++ spec.tenths_text tenths) }
 {
-    text.push_str(Buffer::new().format(tenths / 10))?;
-    text.push_str(".")?;
-    text.push_str(Buffer::new().format(tenths % 10))
+    put(line, Buffer::new().format(tenths / 10))?;
+    put(line, ".")?;
+    put(line, Buffer::new().format(tenths % 10))?;
+    put(line, "%")
 }
 
-fn push_share(text: &mut String, whole: u64, part: u64) -> Result<(), AllocError>
-    ensures { OnOk result (string_bytes text.new ≡ string_bytes text.old ++ spec.share_text whole part) }
+fn put_share(line: &mut Items<char>, part: u64, tenths: u128) -> Result<(), AllocError>
+    ensures { OnOk result (line.new ≡ line.old ++ spec.share_by part tenths) }
 {
-    if part == 0 {
-        return text.push_str("0");
+    if tenths == 0 && part != 0 {
+        return put(line, "<0.1%");
     }
-    push_tenths(text, tenths(whole, part))
+    put_tenths(line, tenths)
 }
 
-/// A part of the whole in per cent, with one place: none where there is nothing, and one tenth at least where there is something.
-pub(crate) fn share_text(alloc: Global, whole: u64, part: u64) -> Result<String, AllocError>
-    ensures { IfOk result (λ text. string_bytes text ≡ spec.share_text whole part) }
+/// A part of the whole in per cent, with one place.
+pub(crate) fn share_text(alloc: Global, whole: u64, part: u64) -> Result<Items<char>, AllocError>
+    ensures { IfOk result (λ text. text ≡ spec.share_text whole part) }
 {
-    let mut text = String::new(alloc);
-    push_share(&mut text, whole, part)?;
+    let mut text = Items::new(alloc);
+    put_share(&mut text, part, tenths(whole, part))?;
     Ok(text)
 }

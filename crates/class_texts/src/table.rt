@@ -1,133 +1,135 @@
 //! The table of classes.
 
-ghost use Rattle.std.specs.Prelude.{◌≡◌, ◌<◌, ◌++◌, IfOk, OnOk, string_bytes};
-ghost use Rattle.shown_texts.specs.Pages.{line_bytes};
+ghost use Rattle.std.specs.Prelude.{◌≡◌, ◌<◌, ◌++◌, IfOk, OnOk, flat_map, string_bytes};
+ghost use Rattle.shown_texts.specs.Pages.{part};
+ghost use Rattle.class_texts.specs.Legend.{legend_lines};
+ghost use Rattle.class_texts.specs.Letters.{sign};
 ghost use Rattle.class_texts.specs.Pages as spec;
 
-use crate::beneath::{push_beneath, tells_more};
-use crate::columns::{put_left, put_right};
-use crate::letters::letters_text;
-use crate::orders::order_lines;
+use crate::beneath::push_beneath;
+use crate::columns::put_right;
+use crate::kind::ClassKind;
+use crate::legend::legend_lines;
+use crate::letters::{Letter, letters_of, letters_text};
+use crate::orders::put_order;
 use crate::page::Page;
 use crate::shares::share_text;
-use crate::widths::{Widths, class_word};
+use crate::totals::{line_of, number_line};
+use crate::widths::{TableWidths, class_word, table_widths};
 use itoa::Buffer;
 use order_classes::ClassRow;
-use shown_texts::{push_lines, put};
+use shown_texts::{push_line, push_lines, put, put_blanks, put_part};
 use sqlite_items::Items;
 use std::alloc::{AllocError, Global};
 
-/// Puts what stands in front of an order behind a line.
-fn put_cells(
-    line: &mut Items<char>,
-    widths: Widths,
+/// A line with what stands in front of an order.
+fn cells(
+    alloc: Global,
+    widths: TableWidths,
     number: &str,
-    orders: &str,
-    share: &str,
-    shows: &str,
+    orders: &[char],
+    share: &[char],
+    letters: &str,
     rank: &str,
-) -> Result<(), AllocError>
-    ensures { OnOk result (line.new ≡ line.old ++ spec.cells widths number.now orders.now share.now shows.now rank.now) }
+) -> Result<Items<char>, AllocError>
+    ensures { IfOk result (λ line. line ≡ spec.cells widths number.now orders.now share.now letters.now rank.now) }
 {
-    put_right(line, widths.number, number)?;
-    put_right(line, widths.orders, orders)?;
-    put_right(line, 9, share)?;
-    put_shows(line, widths, shows, rank)
-}
-
-/// Puts the last two columns in front of an order, with two blanks on both sides, behind a line.
-fn put_shows(
-    line: &mut Items<char>,
-    widths: Widths,
-    shows: &str,
-    rank: &str,
-) -> Result<(), AllocError>
-    ensures { OnOk result (line.new ≡ line.old ++ spec.shows_cells widths shows.now rank.now) }
-{
-    put(line, "  ")?;
-    put_left(line, widths.shows, shows)?;
-    put_right(line, widths.rank, rank)?;
-    put(line, "  ")
-}
-
-fn head(alloc: Global, widths: Widths, page: &Page<'_>) -> Result<Items<char>, AllocError>
-    ensures { IfOk result (λ line. line ≡ spec.table_head widths page.now.by) }
-{
+    let rank = line_of(alloc, rank)?;
     let mut line = Items::new(alloc);
-    put_cells(
-        &mut line,
+    put_blanks(&mut line, widths.number.saturating_sub(number.len()))?;
+    put(&mut line, number)?;
+    put_right(&mut line, widths.orders, orders)?;
+    put_right(&mut line, widths.share, share)?;
+    put(&mut line, "  ")?;
+    put(&mut line, letters)?;
+    put_right(&mut line, widths.rank, rank.as_slice())?;
+    put(&mut line, " ")?;
+    Ok(line)
+}
+
+/// The letters that have a place.
+fn letter_signs(alloc: Global, letters: &[Letter]) -> Result<String, AllocError>
+    ensures { IfOk result (λ text. string_bytes text ≡ flat_map sign letters.now) }
+{
+    let mut text = String::new(alloc);
+    for letter in letters {
+        text.push_str(letter.sign())?;
+    }
+    Ok(text)
+}
+
+fn head(
+    alloc: Global,
+    widths: TableWidths,
+    by: ClassKind,
+    all_orders: bool,
+) -> Result<Items<char>, AllocError>
+    ensures { IfOk result (λ line. line ≡ spec.table_head widths by all_orders) }
+{
+    let orders = line_of(alloc, "orders")?;
+    let share = line_of(alloc, "share")?;
+    let letters = letter_signs(alloc, letters_of(by, all_orders))?;
+    let mut line = cells(
+        alloc,
         widths,
-        class_word(page.by),
-        "orders",
-        "share %",
-        "shows",
+        class_word(by),
+        orders.as_slice(),
+        share.as_slice(),
+        letters.as_str(),
         "rank",
     )?;
-    put(&mut line, "order")?;
+    put(&mut line, " first order")?;
     Ok(line)
 }
 
 /// What stands in front of the order of a class.
-fn front(
+fn row_front(
     alloc: Global,
-    widths: Widths,
+    widths: TableWidths,
     page: &Page<'_>,
     number: usize,
     row: &ClassRow,
 ) -> Result<Items<char>, AllocError>
     ensures { IfOk result (λ line. line ≡ spec.row_front widths page.now number row.now) }
 {
-    let mut line = Items::new(alloc);
-    put_front(alloc, &mut line, widths, page, number, row)?;
-    Ok(line)
-}
-
-fn put_front(
-    alloc: Global,
-    line: &mut Items<char>,
-    widths: Widths,
-    page: &Page<'_>,
-    number: usize,
-    row: &ClassRow,
-) -> Result<(), AllocError>
-    ensures { OnOk result (line.new ≡ line.old ++ spec.row_front widths page.now number row.now) }
-{
-    let share = share_text(alloc, page.orders, row.count)?;
-    let shows = letters_text(alloc, page.by, row.letters)?;
-    put_cells(
-        line,
+    let orders = number_line(alloc, row.count)?;
+    let share = share_text(alloc, page.totals.all.orders, row.count)?;
+    let letters = letters_text(alloc, page.by, page.all_orders, row.letters)?;
+    cells(
+        alloc,
         widths,
         Buffer::new().format(number),
-        Buffer::new().format(row.count),
-        share.as_str(),
-        shows.as_str(),
+        orders.as_slice(),
+        share.as_slice(),
+        letters.as_str(),
         Buffer::new().format(row.least),
     )
 }
 
-fn row_lines(
+fn row_line(
     alloc: Global,
-    widths: Widths,
+    widths: TableWidths,
     page: &Page<'_>,
     number: usize,
     row: &ClassRow,
-) -> Result<Items<Items<char>>, AllocError>
-    ensures { IfOk result (λ lines. lines ≡ spec.row_lines widths page.now number row.now) }
+) -> Result<Items<char>, AllocError>
+    ensures { IfOk result (λ line. line ≡ spec.row_line widths page.now number row.now) }
 {
-    let front = front(alloc, widths, page, number, row)?;
-    order_lines(
+    let mut line = row_front(alloc, widths, page, number, row)?;
+    put_order(
         alloc,
+        &mut line,
         page.steps,
         row.shows.told.sessions(),
-        front,
         row.line.as_slice(),
-    )
+    )?;
+    Ok(line)
 }
 
 fn push_row(
     alloc: Global,
     text: &mut String,
-    widths: Widths,
+    widths: TableWidths,
     page: &Page<'_>,
     place: usize,
     row: &ClassRow,
@@ -135,8 +137,8 @@ fn push_row(
     requires { place < usize.MAX }
     ensures { OnOk result (string_bytes text.new ≡ string_bytes text.old ++ spec.row_bytes widths page.now place row.now) }
 {
-    let lines = row_lines(alloc, widths, page, place + 1, row)?;
-    push_lines(text, lines.as_slice())?;
+    let line = row_line(alloc, widths, page, place + 1, row)?;
+    push_line(text, line.as_slice())?;
     push_beneath(alloc, text, page, place, row)
 }
 
@@ -144,7 +146,7 @@ fn push_row(
 fn push_rows(
     alloc: Global,
     text: &mut String,
-    widths: Widths,
+    widths: TableWidths,
     page: &Page<'_>,
     rows: &[ClassRow],
 ) -> Result<(), AllocError>
@@ -160,38 +162,39 @@ fn push_rows(
 fn push_head(
     alloc: Global,
     text: &mut String,
-    widths: Widths,
+    widths: TableWidths,
     page: &Page<'_>,
 ) -> Result<(), AllocError>
     ensures { OnOk result (string_bytes text.new ≡ string_bytes text.old ++ spec.head_bytes widths page.now) }
 {
-    let mut lines = Items::new(alloc);
-    lines.push(Items::new(alloc))?;
-    lines.push(head(alloc, widths, page)?)?;
-    push_lines(text, lines.as_slice())
+    let line = head(alloc, widths, page.by, page.all_orders)?;
+    text.push_str("\n")?;
+    push_line(text, line.as_slice())
 }
 
-/// Puts what marks mean behind a text and an empty line.
-fn push_key(text: &mut String, page: &Page<'_>) -> Result<(), AllocError>
-    ensures { OnOk result (string_bytes text.new ≡ string_bytes text.old ++ spec.key_bytes page.now) }
+/// Puts what marks mean behind a text and an empty line, if there are any.
+fn push_legend(alloc: Global, text: &mut String, page: &Page<'_>) -> Result<(), AllocError>
+    ensures { OnOk result (string_bytes text.new ≡ string_bytes text.old ++ spec.lines_bytes (part (legend_lines page.now.steps page.now.rows))) }
 {
-    text.push_str(if tells_more(page) { "" } else { "\n" })?;
-    text.push_str("the order of the least rank, with marks: : waits   ! fails   - is not sent\n")
+    let legend = legend_lines(alloc, page.steps, page.rows)?;
+    let mut lines = Items::new(alloc);
+    put_part(alloc, &mut lines, legend)?;
+    push_lines(text, lines.as_slice())
 }
 
 /// Puts the table behind a text, if there is one.
 pub(crate) fn push_table(
     alloc: Global,
     text: &mut String,
-    widths: Widths,
     page: &Page<'_>,
 ) -> Result<(), AllocError>
-    ensures { OnOk result (string_bytes text.new ≡ string_bytes text.old ++ spec.table_part widths page.now) }
+    ensures { OnOk result (string_bytes text.new ≡ string_bytes text.old ++ spec.table_part page.now) }
 {
     if page.is_brief || page.rows.len() == 0 {
         return Ok(());
     }
+    let widths = table_widths(alloc, page.by, page.totals.all.orders, page.rows)?;
     push_head(alloc, text, widths, page)?;
     push_rows(alloc, text, widths, page, page.rows)?;
-    push_key(text, page)
+    push_legend(alloc, text, page)
 }

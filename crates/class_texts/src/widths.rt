@@ -1,83 +1,179 @@
-//! How wide the columns of a page are.
+//! How wide columns are.
 
-ghost use Rattle.std.specs.Prelude.{◌≡◌, ◌≤◌};
+ghost use Rattle.std.specs.Prelude.{◌≡◌, IfOk};
 ghost use Rattle.class_texts.specs.Pages as spec;
 
+use crate::counted::put_number_text;
 use crate::kind::ClassKind;
-use crate::letters::letters_of;
-use crate::page::Page;
+use crate::letters::Letter;
+use crate::shares::share_text;
 use itoa::Buffer;
+use order_classes::{ClassRow, Total, Totals};
+use sqlite_items::Items;
+use std::alloc::{AllocError, Global};
 
-/// How wide the columns of a page are, each but the first one with the two blanks in front of it.
+/// How wide the columns of the totals are.
 #[derive(Clone, Copy)]
-pub(crate) struct Widths {
-    /// The numbers of orders.
+pub struct TotalWidths {
     pub orders: usize,
-    /// The numbers of classes.
+    pub share: usize,
     pub classes: usize,
-    /// The number of a class.
+}
+
+/// How wide the columns of the table are.
+#[derive(Clone, Copy)]
+pub struct TableWidths {
     pub number: usize,
-    /// The letters, without the blanks in front of them.
-    pub shows: usize,
-    /// The least rank.
+    pub orders: usize,
+    pub share: usize,
     pub rank: usize,
 }
 
-/// What one class is called.
+/// One class.
 pub(crate) fn class_word(by: ClassKind) -> &'static str
     ensures { result.now ≡ spec.class_word by }
 {
     match by {
         ClassKind::Shows => "class",
-        ClassKind::Answers => "answer",
-        ClassKind::Outcomes => "outcome",
+        ClassKind::Answers => "result",
+        ClassKind::Outcomes => "class",
     }
 }
 
-/// What several are called.
+/// Several classes.
 pub(crate) fn classes_word(by: ClassKind) -> &'static str
     ensures { result.now ≡ spec.classes_word by }
 {
     match by {
         ClassKind::Shows => "classes",
-        ClassKind::Answers => "answers",
-        ClassKind::Outcomes => "outcomes",
+        ClassKind::Answers => "results",
+        ClassKind::Outcomes => "classes",
     }
 }
 
-fn digits_of(number: u64) -> usize
-    ensures digits { result ≡ spec.digits_of number }
-    ensures few { result ≤ 40 }
+/// How wide a column of numbers is of which this is the largest.
+fn number_width(alloc: Global, head: usize, largest: u64) -> Result<usize, AllocError>
+    ensures { IfOk result (λ width. width ≡ spec.number_width head largest) }
+{
+    let mut text = Items::new(alloc);
+    put_number_text(&mut text, largest)?;
+    Ok(head.max(text.len()))
+}
+
+/// How wide a column of shares is of which this is the largest part.
+fn share_width(alloc: Global, whole: u64, largest: u64) -> Result<usize, AllocError>
+    ensures { IfOk result (λ width. width ≡ spec.share_width whole largest) }
+{
+    let text = share_text(alloc, whole, largest)?;
+    Ok(text.len().max(5))
+}
+
+fn orders_of(total: Option<Total>) -> u64
+    ensures { result ≡ spec.orders_of total }
+{
+    match total {
+        None => 0,
+        Some(total) => total.orders,
+    }
+}
+
+fn classes_of(total: Option<Total>) -> u64
+    ensures { result ≡ spec.classes_of total }
+{
+    match total {
+        None => 0,
+        Some(total) => total.classes,
+    }
+}
+
+fn most_orders(totals: Totals, letters: &[Letter]) -> u64
+    ensures { result ≡ spec.most_orders totals letters.now }
+{
+    let mut most = 0;
+    for letter in letters {
+        most = most.max(orders_of(letter.total(totals)));
+    }
+    most
+}
+
+fn most_classes(totals: Totals, letters: &[Letter]) -> u64
+    ensures { result ≡ spec.most_classes totals letters.now }
+{
+    let mut most = 0;
+    for letter in letters {
+        most = most.max(classes_of(letter.total(totals)));
+    }
+    most
+}
+
+/// How wide the columns of these totals are.
+pub(crate) fn total_widths(
+    alloc: Global,
+    by: ClassKind,
+    totals: Totals,
+    letters: &[Letter],
+) -> Result<TotalWidths, AllocError>
+    ensures { IfOk result (λ widths. widths ≡ spec.total_widths by totals letters.now) }
+{
+    let most = most_orders(totals, letters);
+    let orders = number_width(alloc, 6, most)?;
+    let share = share_width(alloc, totals.all.orders, most)?;
+    let classes = number_width(alloc, classes_word(by).len(), most_classes(totals, letters))?;
+    Ok(TotalWidths {
+        orders,
+        share,
+        classes,
+    })
+}
+
+fn most_counted(rows: &[ClassRow]) -> u64
+    ensures { result ≡ spec.most_counted rows.now }
+{
+    let mut most = 0;
+    for row in rows {
+        most = most.max(row.count);
+    }
+    most
+}
+
+fn last_rank(rows: &[ClassRow]) -> u64
+    ensures { result ≡ spec.last_rank rows.now }
+{
+    let mut last = 0;
+    for row in rows {
+        last = last.max(row.least);
+    }
+    last
+}
+
+/// How wide the columns of a table of these classes are.
+pub(crate) fn table_widths(
+    alloc: Global,
+    by: ClassKind,
+    whole: u64,
+    rows: &[ClassRow],
+) -> Result<TableWidths, AllocError>
+    ensures { IfOk result (λ widths. widths ≡ spec.table_widths by whole rows.now) }
+{
+    let most = most_counted(rows);
+    let orders = number_width(alloc, 6, most)?;
+    let share = share_width(alloc, whole, most)?;
+    Ok(TableWidths {
+        number: digits_of(rows.len()).max(class_word(by).len()),
+        orders,
+        share,
+        rank: rank_width(last_rank(rows)),
+    })
+}
+
+fn digits_of(number: usize) -> usize
+    ensures { result ≡ spec.digits_of number }
 {
     Buffer::new().format(number).len()
 }
 
-fn digits_of_size(size: usize) -> usize
-    ensures digits { result ≡ spec.digits_of size }
-    ensures few { result ≤ 40 }
+fn rank_width(last: u64) -> usize
+    ensures { result ≡ spec.rank_width last }
 {
-    Buffer::new().format(size).len()
-}
-
-fn widths_by(by: ClassKind, orders: u64, classes: u64, rows: usize) -> Widths
-    ensures { result ≡ spec.widths_by by orders classes rows }
-{
-    Widths {
-        orders: 2 + digits_of(orders).max(6),
-        classes: 2 + classes_word(by).len().max(digits_of(classes)),
-        number: class_word(by).len().max(digits_of_size(rows)),
-        shows: letters_of(by).len().max(5),
-        rank: 2 + digits_of(orders).max(4),
-    }
-}
-
-pub(crate) fn widths_of(page: &Page<'_>) -> Widths
-    ensures { result ≡ spec.widths page.now }
-{
-    widths_by(
-        page.by,
-        page.orders,
-        page.totals.all.classes,
-        page.rows.len(),
-    )
+    Buffer::new().format(last).len().max(4)
 }

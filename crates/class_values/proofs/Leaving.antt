@@ -10,7 +10,7 @@ use Rattle.line_moments.specs.declared.shown.Standing.TheVariants.{HasEnded, IsO
 use Rattle.order_classes.specs.Shows.{rest_of, seen, seen_by, unnumbered}
 use Rattle.shown_values.specs.Strings.{array_json}
 use Rattle.shown_values.specs.Page.{entry_json, left_json, open_from, opens_by, table_json}
-use Rattle.class_texts.specs.Laws.{table_of}
+use Rattle.class_values.specs.Laws.{table_of}
 use Rattle.class_texts.proofs.ShownLemmas.{drop-front, drop-rest}
 use Rattle.class_values.specs.Class.{open_of, tables_from}
 

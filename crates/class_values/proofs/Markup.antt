@@ -1,5 +1,5 @@
 -- No part of the JSON of classes has a sign that markup is made of.
-use Rattle.std.specs.Prelude.{refl, ℕ, zero, suc, ◌+◌, ◌-◌, Bool, true, false, cond, List, [], ◌∷◌, get_or, Option, Some, None, option_map, codes, decimal, zip}
+use Rattle.std.specs.Prelude.{refl, ℕ, zero, suc, ◌+◌, ◌-◌, Bool, true, false, cond, List, [], ◌∷◌, get_or, Option, Some, None, option_map, ◌++◌, codes, decimal, zip}
 use Rattle.std.specs.List.{join_by}
 use Rattle.std.proofs.lemmas.List.Folds.{list_any-append}
 use Rattle.lock_modes.specs.declared.value.Value.{Value}
@@ -16,7 +16,7 @@ use Rattle.order_classes.specs.declared.shows.Rest.{Rest}
 use Rattle.order_classes.specs.declared.shows.Rest.TheVariants.{HasEnded, IsOpen, HasFailed, StillWaits}
 use Rattle.order_classes.specs.declared.shows.Shows.{Shows as Shown}
 use Rattle.shown_values.specs.Laws.{IsFree}
-use Rattle.shown_values.specs.Strings.{before_item, string_json}
+use Rattle.shown_values.specs.Strings.{array_json, before_item, string_json}
 use Rattle.shown_values.specs.Words.{line_json}
 use Rattle.shown_values.specs.Page.{open_json, opens_by, step_json}
 use Rattle.shown_values.proofs.Markup.{EachFree, array-free, both, decimal-free, every, items-free, join-free, number-free, pair-free, step-free, string-free, table-free}
@@ -26,11 +26,14 @@ use Rattle.class_texts.specs.Letters.{letters_of, letters_text}
 use Rattle.class_texts.specs.Beneath.{Look}
 use Rattle.class_texts.specs.Expected.{Expectation, first_miss, met_from}
 use Rattle.class_texts.specs.Pages.{Page}
+use Rattle.class_values.specs.Labels.{label}
+use Rattle.class_values.specs.declared.label.Label.{Label}
+use Rattle.class_values.specs.declared.label.Label.TheVariants as the
 use Rattle.class_values.specs.Totals.{letter_json, told_total, total_json, totals_json}
 use Rattle.class_values.specs.Expected.{expected_json, least_of, so_json, value_json, wanted_json}
 use Rattle.class_values.specs.Class.{class_at, class_json, classes_from, classes_part, head_json, left_part, lines_json, open_of, range_json}
 use Rattle.class_values.specs.Class.{ranks_part, rests_json, seen_json, shows_json, table_at, tables_from, tables_json}
-use Rattle.class_values.specs.Page.{asked_json, by_json, classes_json, counts_json, grouped_json, look_json, missing_by, missing_json, numbers_json}
+use Rattle.class_values.specs.Page.{asked_json, by_json, classes_json, counts_json, grouped_json, levels_json, look_json, missing_by, missing_json, numbers_json}
 
 -- one of two texts
 one-free : (b : Bool) (xs ys : List ℕ) → IsFree xs → IsFree ys → IsFree (cond b xs ys)
@@ -41,24 +44,37 @@ before-free : (place : ℕ) → IsFree (before_item (codes ",") place)
 before-free zero = refl
 before-free (suc place) = refl
 
+label-free : (l : Label) → IsFree (label l)
+unfolding label
+label-free the.FirstRank = refl
+label-free the.ClassOrders = refl
+label-free the.Letters = refl
+label-free the.Order = refl
+label-free the.Transcripts = refl
+label-free the.FinalRows = refl
+label-free the.Open = refl
+label-free the.QueryRows = refl
+label-free the.Expectations = refl
+label-free the.Queries = refl
+
 -- ---- totals
 
 total-free : (total : Option Total) → IsFree (total_json total)
 total-free None = refl
 total-free (Some total) = simp (list_any-append, decimal-free total.orders, decimal-free total.classes)
 
-letter-free : (by : ClassKind) (totals : Totals) (letter : Letter) → IsFree (letter_json by totals letter)
-letter-free by totals Waits = total-free (told_total by totals Waits)
-letter-free by totals Deadlock = total-free (told_total by totals Deadlock)
-letter-free by totals Error = total-free (told_total by totals Error)
-letter-free by totals Unsent = total-free (told_total by totals Unsent)
-letter-free by totals Stuck = total-free (told_total by totals Stuck)
-letter-free by totals NotSerial = total-free (told_total by totals NotSerial)
+letter-free : (by : ClassKind) (all : Bool) (totals : Totals) (letter : Letter) → IsFree (letter_json by all totals letter)
+letter-free by all totals Waits = total-free (told_total by all totals Waits)
+letter-free by all totals Deadlock = total-free (told_total by all totals Deadlock)
+letter-free by all totals Error = total-free (told_total by all totals Error)
+letter-free by all totals Unsent = total-free (told_total by all totals Unsent)
+letter-free by all totals Stuck = total-free (told_total by all totals Stuck)
+letter-free by all totals NotSerial = total-free (told_total by all totals NotSerial)
 
-totals-free : (by : ClassKind) (totals : Totals) → IsFree (totals_json by totals)
-totals-free by totals =
-    let letters = join-free (letter_json by totals) (letters_of Shows) (every (letter_json by totals) (letter-free by totals) (letters_of Shows)) in
-    both (join_by (letter_json by totals) (codes ",") (letters_of Shows)) (codes "}") letters refl
+totals-free : (by : ClassKind) (all : Bool) (totals : Totals) → IsFree (totals_json by all totals)
+totals-free by all totals =
+    let letters = join-free (letter_json by all totals) (letters_of Shows true) (every (letter_json by all totals) (letter-free by all totals) (letters_of Shows true)) in
+    both (join_by (letter_json by all totals) (codes ",") (letters_of Shows true)) (codes "}") letters refl
 
 -- ---- what is expected
 
@@ -74,13 +90,17 @@ expected-free rows e =
 
 -- ---- a class
 
-head-free : (by : ClassKind) (row : ClassRow) → IsFree (head_json by row)
-head-free by row =
+head-free : (p : Page) (row : ClassRow) → IsFree (head_json p row)
+head-free p row =
     simp (
       list_any-append,
+      label-free the.FirstRank,
+      label-free the.ClassOrders,
+      label-free the.Letters,
+      label-free the.Order,
       decimal-free row.least,
       decimal-free row.count,
-      string-free (letters_text by row.letters),
+      string-free (letters_text p.by p.all_orders row.letters),
       array-free decimal decimal-free row.line.items,
     )
 
@@ -113,13 +133,13 @@ all-tables-free : (tables : List Table) (left : List (List (Value × List Value)
 all-tables-free tables left = simp (list_any-append, tables-free left 0 tables)
 
 left-free : (by : ClassKind) (tables : List Table) (shows : Shown) → IsFree (left_part by tables shows)
-left-free Shows tables shows = simp (list_any-append, all-tables-free tables shows.left, open-free shows.rests)
-left-free Answers tables shows = all-tables-free tables shows.left
+left-free Shows tables shows = simp (list_any-append, label-free the.FinalRows, label-free the.Open, all-tables-free tables shows.left, open-free shows.rests)
+left-free Answers tables shows = simp (list_any-append, label-free the.FinalRows, all-tables-free tables shows.left)
 left-free Outcomes tables shows = refl
 
 shows-free : (p : Page) (shows : Shown) → IsFree (shows_json p shows)
 shows-free p shows =
-    simp (list_any-append, array-free (lines_json p.steps) (lines-free p.steps) shows.told, left-free p.by p.tables shows)
+    simp (list_any-append, label-free the.Transcripts, array-free (lines_json p.steps) (lines-free p.steps) shows.told, left-free p.by p.tables shows)
 
 seen-free : (steps : List (List ℕ)) (k : ℕ) (look : Look) → IsFree (seen_json steps k look)
 seen-free steps k look = lines-free steps (get_or look.seen k [])
@@ -132,13 +152,13 @@ ranks-free p k = one-free p.with_ranks _ [] (array-free range_json range-free (g
 
 class-free : (p : Page) (k : ℕ) (row : ClassRow) → IsFree (class_json p k row)
 class-free p k row =
-    simp (
-      list_any-append,
-      head-free p.by row,
-      shows-free p row.shows,
-      array-free (seen_json p.steps k) (seen-free p.steps k) p.looks,
-      ranks-free p k,
-    )
+    let seen = label the.QueryRows ++ array_json (seen_json p.steps k) p.looks in
+    let parts = head_json p row ++ shows_json p row.shows in
+    let seen-free' : IsFree seen =
+    both (label the.QueryRows) (array_json (seen_json p.steps k) p.looks) (label-free the.QueryRows) (array-free (seen_json p.steps k) (seen-free p.steps k) p.looks) in
+    both (parts ++ seen ++ ranks_part p k) (codes "}")
+    (both (parts ++ seen) (ranks_part p k)
+    (both parts seen (both (head_json p row) (shows_json p row.shows) (head-free p row) (shows-free p row.shows)) seen-free') (ranks-free p k)) refl
 
 classes-free : (p : Page) (k : ℕ) (rows : List ClassRow) → IsFree (classes_from p k rows)
 classes-free p k [] = refl
@@ -180,13 +200,24 @@ numbers-free p step_sessions statements =
       array-free step_json step-free (zip p.steps (zip step_sessions statements)),
     )
 
+levels-free : (p : Page) → IsFree (levels_json p)
+levels-free p = array-free decimal decimal-free p.level_lines
+
 asked-free : (p : Page) → IsFree (asked_json p)
 asked-free p =
-    simp (list_any-append, array-free (expected_json p.rows) (expected-free p.rows) p.expectations, array-free look_json look-free p.looks)
+    simp (list_any-append, label-free the.Expectations, label-free the.Queries, array-free (expected_json p.rows) (expected-free p.rows) p.expectations, array-free look_json look-free p.looks)
 
 grouped-free : (p : Page) → IsFree (grouped_json p)
-grouped-free p = simp (list_any-append, by-free p.by, totals-free p.by p.totals, asked-free p)
+grouped-free p =
+    both ((codes ",\"by\":" ++ by_json p.by) ++ (codes ",\"totals\":" ++ totals_json p.by p.all_orders p.totals)) (asked_json p)
+    (simp (list_any-append, by-free p.by, totals-free p.by p.all_orders p.totals)) (asked-free p)
 
 pub json-free : (p : Page) (step_sessions : List ℕ) (statements : List (List ℕ)) → IsFree (classes_json p step_sessions statements)
 json-free p step_sessions statements =
-    simp (list_any-append, counts-free p, numbers-free p step_sessions statements, grouped-free p, part-free p)
+    let counts = counts_json p in
+    let numbers = numbers_json p step_sessions statements in
+    both (counts ++ numbers ++ levels_json p ++ grouped_json p ++ classes_part p) (codes "}\n")
+    (both (counts ++ numbers ++ levels_json p ++ grouped_json p) (classes_part p)
+    (both (counts ++ numbers ++ levels_json p) (grouped_json p)
+    (both (counts ++ numbers) (levels_json p) (both counts numbers (counts-free p) (numbers-free p step_sessions statements)) (levels-free p))
+    (grouped-free p)) (part-free p)) refl

@@ -14,6 +14,7 @@ use Rattle.class_texts.specs.Expected.{Expectation}
 use Rattle.class_texts.specs.Pages.{Page}
 use Rattle.class_values.specs.Totals.{totals_json}
 use Rattle.class_values.specs.Expected.{expected_json}
+use Rattle.class_values.specs.Labels.{label}
 use Rattle.class_values.specs.Class.{left_part}
 use Rattle.class_values.specs.Page.{classes_json, missing_by}
 
@@ -67,12 +68,15 @@ abbrev two_orders : Page
 two_orders = record {
   path = codes "two.spec";
   orders = 2;
+  all_orders = true;
   sessions = codes "a" ∷ codes "b" ∷ [];
   steps = codes "a1" ∷ codes "b1" ∷ [];
   tables = record { name = codes "t"; columns = []; key = None } ∷ [];
   by = Shows;
   is_filtered = false;
+  filters = [];
   missing = None;
+  level_lines = [];
   expectations = one_row ∷ [];
   totals = record {
     all = total 2 2;
@@ -93,23 +97,23 @@ two_orders = record {
 }
 
 two_orders_json : classes_json two_orders (0 ∷ 1 ∷ []) (codes "UPDATE t SET n = 1" ∷ codes "DELETE FROM t" ∷ [])
-    ≡ codes "{\"format\":1,\"name\":\"two.spec\",\"orders\":2,\"asked\":2,\"sessions\":[\"a\",\"b\"],"
-    ++ codes "\"steps\":[{\"name\":\"a1\",\"session\":0,\"sql\":\"UPDATE t SET n = 1\"},{\"name\":\"b1\",\"session\":1,\"sql\":\"DELETE FROM t\"}],"
+    ≡ codes "{\"format\":2,\"name\":\"two.spec\",\"orders\":2,\"asked\":2,\"sessions\":[\"a\",\"b\"],"
+    ++ codes "\"steps\":[{\"name\":\"a1\",\"session\":0,\"sql\":\"UPDATE t SET n = 1\"},{\"name\":\"b1\",\"session\":1,\"sql\":\"DELETE FROM t\"}],\"level_lines\":[],"
     ++ codes "\"by\":\"shows\",\"totals\":{\"W\":[1,1],\"D\":[0,0],\"E\":[0,0],\"N\":[0,0],\"S\":[1,1],\"R\":[0,0]},"
-    ++ codes "\"expected\":[{\"select\":\"SELECT n FROM t\",\"values\":[\"1\",\"'it''s'\"],\"met\":1,\"first\":1}],\"looks\":[\"SELECT COUNT(*) FROM t\"],"
-    ++ codes "\"classes\":[{\"least\":0,\"orders\":1,\"shows\":\"W---S-\",\"order\":[0,1],"
-    ++ codes "\"told\":[[\"step a1\",\"updated 1\",\"done\"],[\"step b1\",\"waiting\"]],\"left\":[{\"table\":\"t\",\"rows\":[\"1|'\\u003c'\"]}],"
-    ++ codes "\"open\":[[0,\"in\"],[1,\"waits\"]],\"seen\":[[\"row 1\",\"rows 1\"]],\"ranks\":[[0,0]]},"
-    ++ codes "{\"least\":1,\"orders\":1,\"shows\":\"------\",\"order\":[1,0],"
-    ++ codes "\"told\":[[\"step a1\",\"updated 0\",\"done\"],[\"step b1\",\"updated 1\",\"done\"]],\"left\":[{\"table\":\"t\",\"rows\":[]}],"
-    ++ codes "\"open\":[],\"seen\":[[\"row 0\",\"rows 1\"]],\"ranks\":[[1,1]]}]}\n"
-unfolding digits escaped escape_byte
+    ++ codes "\"expectations\":[{\"select\":\"SELECT n FROM t\",\"values\":[\"1\",\"'it''s'\"],\"holds_in\":1,\"first\":1}],\"queries\":[\"SELECT COUNT(*) FROM t\"],"
+    ++ codes "\"classes\":[{\"first_rank\":0,\"orders\":1,\"letters\":\"W...S.\",\"order\":[0,1],"
+    ++ codes "\"transcripts\":[[\"step a1\",\"updated 1\",\"done\"],[\"step b1\",\"waiting\"]],\"final_rows\":[{\"table\":\"t\",\"rows\":[\"1|'\\u003c'\"]}],"
+    ++ codes "\"open\":[[0,\"in\"],[1,\"waits\"]],\"query_rows\":[[\"row 1\",\"rows 1\"]],\"ranks\":[[0,0]]},"
+    ++ codes "{\"first_rank\":1,\"orders\":1,\"letters\":\"......\",\"order\":[1,0],"
+    ++ codes "\"transcripts\":[[\"step a1\",\"updated 0\",\"done\"],[\"step b1\",\"updated 1\",\"done\"]],\"final_rows\":[{\"table\":\"t\",\"rows\":[]}],"
+    ++ codes "\"open\":[],\"query_rows\":[[\"row 0\",\"rows 1\"]],\"ranks\":[[1,1]]}]}\n"
+unfolding digits escaped escape_byte label
 two_orders_json = refl
 
 -- ---- by answers
 
 -- waits and steps that are not sent are not told, and R is not told of a file with permutation lines
-answers_totals : totals_json Answers
+answers_totals : totals_json Answers true
     (record {
       all = total 9 3;
       waits = total 5 2;
@@ -124,14 +128,14 @@ unfolding digits
 answers_totals = refl
 
 -- nor is it told how sessions stand
-answers_left : left_part Answers two_orders.tables first_class.shows ≡ codes ",\"left\":[{\"table\":\"t\",\"rows\":[\"1|'\\u003c'\"]}]"
-unfolding digits escaped escape_byte
+answers_left : left_part Answers two_orders.tables first_class.shows ≡ codes ",\"final_rows\":[{\"table\":\"t\",\"rows\":[\"1|'\\u003c'\"]}]"
+unfolding digits escaped escape_byte label
 answers_left = refl
 
 -- ---- of books
 
 -- what is left is not known, and so are two of the letters
-outcomes_totals : totals_json Outcomes two_orders.totals ≡ codes "{\"W\":[1,1],\"D\":[0,0],\"E\":[0,0],\"N\":[0,0],\"S\":null,\"R\":null}"
+outcomes_totals : totals_json Outcomes false two_orders.totals ≡ codes "{\"W\":[1,1],\"D\":[0,0],\"E\":[0,0],\"N\":[0,0],\"S\":null,\"R\":null}"
 unfolding digits
 outcomes_totals = refl
 
@@ -145,8 +149,8 @@ unfolding digits
 outcomes_missing = refl
 
 -- it is so of all orders
-met_by_all : expected_json (first_class ∷ []) one_row ≡ codes "{\"select\":\"SELECT n FROM t\",\"values\":[\"1\",\"'it''s'\"],\"met\":1,\"first\":null}"
-unfolding digits escaped escape_byte
+met_by_all : expected_json (first_class ∷ []) one_row ≡ codes "{\"select\":\"SELECT n FROM t\",\"values\":[\"1\",\"'it''s'\"],\"holds_in\":1,\"first\":null}"
+unfolding digits escaped escape_byte label
 met_by_all = refl
 
 -- ---- the one order of a file with one step that has no statement
@@ -155,12 +159,15 @@ abbrev one_step : Page
 one_step = record {
   path = codes "one.spec";
   orders = 1;
+  all_orders = false;
   sessions = codes "a" ∷ [];
   steps = codes "s" ∷ [];
   tables = [];
   by = Shows;
   is_filtered = false;
+  filters = [];
   missing = None;
+  level_lines = 3 ∷ 12 ∷ [];
   expectations = [];
   totals = record {
     all = total 1 1;
@@ -188,10 +195,10 @@ one_step = record {
 }
 
 one_step_json : classes_json one_step (0 ∷ []) ([] ∷ [])
-    ≡ codes "{\"format\":1,\"name\":\"one.spec\",\"orders\":1,\"asked\":1,\"sessions\":[\"a\"],"
-    ++ codes "\"steps\":[{\"name\":\"s\",\"session\":0,\"sql\":\"\"}],\"by\":\"shows\","
-    ++ codes "\"totals\":{\"W\":[0,0],\"D\":[0,0],\"E\":[0,0],\"N\":[0,0],\"S\":[0,0],\"R\":[0,0]},\"expected\":[],\"looks\":[],"
-    ++ codes "\"classes\":[{\"least\":0,\"orders\":1,\"shows\":\"------\",\"order\":[0],\"told\":[[\"step s\",\"done\"]],"
-    ++ codes "\"left\":[],\"open\":[],\"seen\":[]}]}\n"
-unfolding digits escaped escape_byte
+    ≡ codes "{\"format\":2,\"name\":\"one.spec\",\"orders\":1,\"asked\":1,\"sessions\":[\"a\"],"
+    ++ codes "\"steps\":[{\"name\":\"s\",\"session\":0,\"sql\":\"\"}],\"level_lines\":[3,12],\"by\":\"shows\","
+    ++ codes "\"totals\":{\"W\":[0,0],\"D\":[0,0],\"E\":[0,0],\"N\":null,\"S\":[0,0],\"R\":[0,0]},\"expectations\":[],\"queries\":[],"
+    ++ codes "\"classes\":[{\"first_rank\":0,\"orders\":1,\"letters\":\".....\",\"order\":[0],\"transcripts\":[[\"step s\",\"done\"]],"
+    ++ codes "\"final_rows\":[],\"open\":[],\"query_rows\":[]}]}\n"
+unfolding digits escaped escape_byte label
 one_step_json = refl

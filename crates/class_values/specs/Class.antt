@@ -1,5 +1,5 @@
 -- The JSON of each class.
-use Rattle.std.specs.Prelude.{ℕ, ◌+◌, ◌-◌, cond, List, [], ◌∷◌, ◌++◌, get_or, codes, decimal}
+use Rattle.std.specs.Prelude.{ℕ, ◌+◌, ◌-◌, Bool, cond, List, [], ◌∷◌, ◌++◌, get_or, codes, decimal}
 use Rattle.lock_modes.specs.declared.value.Value.{Value}
 use Rattle.events.specs.declared.event.Event.{Event}
 use Rattle.binding_model.specs.declared.tables.Table.{Table}
@@ -17,15 +17,17 @@ use Rattle.shown_values.specs.Page.{open_json, opens_by, table_json}
 use Rattle.class_texts.specs.Beneath.{Look}
 use Rattle.class_texts.specs.Letters.{letters_text}
 use Rattle.class_texts.specs.Pages.{Page}
+use Rattle.class_values.specs.Labels.{label}
+use Rattle.class_values.specs.declared.label.Label.TheVariants as the
 
-abbrev pub letters_json : ClassKind → Letters → List ℕ
-letters_json by letters = string_json (letters_text by letters)
+abbrev pub letters_json : ClassKind → Bool → Letters → List ℕ
+letters_json by all letters = string_json (letters_text by all letters)
 
--- the least rank, how many orders, what they show, and the order of the least rank
-abbrev pub head_json : ClassKind → ClassRow → List ℕ
-head_json by row =
-    (codes "{\"least\":" ++ decimal row.least) ++ (codes ",\"orders\":" ++ decimal row.count)
-    ++ (codes ",\"shows\":" ++ letters_json by row.letters) ++ (codes ",\"order\":" ++ array_json decimal row.line.items)
+-- the first rank, how many orders, their letters, and the first order
+abbrev pub head_json : Page → ClassRow → List ℕ
+head_json p row =
+    (label the.FirstRank ++ decimal row.least) ++ (label the.ClassOrders ++ decimal row.count)
+    ++ (label the.Letters ++ letters_json p.by p.all_orders row.letters) ++ (label the.Order ++ array_json decimal row.line.items)
 
 -- events as lines, where these are the names of the steps
 abbrev pub lines_json : List (List ℕ) → List Event → List ℕ
@@ -56,13 +58,13 @@ rests_json rests = array_json open_json (opens_by open_of 0 rests)
 
 -- what is left, and how sessions stand, which is no answer; books know nothing of either
 abbrev pub left_part : ClassKind → List Table → Shown → List ℕ
-left_part Shows tables shows = (codes ",\"left\":" ++ tables_json tables shows.left) ++ (codes ",\"open\":" ++ rests_json shows.rests)
-left_part Answers tables shows = codes ",\"left\":" ++ tables_json tables shows.left
+left_part Shows tables shows = (label the.FinalRows ++ tables_json tables shows.left) ++ (label the.Open ++ rests_json shows.rests)
+left_part Answers tables shows = label the.FinalRows ++ tables_json tables shows.left
 left_part Outcomes tables shows = []
 
 -- what each session is told, and what is left
 abbrev pub shows_json : Page → Shown → List ℕ
-shows_json p shows = (codes ",\"told\":" ++ array_json (lines_json p.steps) shows.told) ++ left_part p.by p.tables shows
+shows_json p shows = (label the.Transcripts ++ array_json (lines_json p.steps) shows.told) ++ left_part p.by p.tables shows
 
 -- what a look sees of the class at this place
 abbrev pub seen_json : List (List ℕ) → ℕ → Look → List ℕ
@@ -78,7 +80,7 @@ ranks_part p k = cond p.with_ranks (codes ",\"ranks\":" ++ array_json range_json
 
 abbrev pub class_json : Page → ℕ → ClassRow → List ℕ
 class_json p k row =
-    head_json p.by row ++ shows_json p row.shows ++ (codes ",\"seen\":" ++ array_json (seen_json p.steps k) p.looks) ++ ranks_part p k ++ codes "}"
+    head_json p row ++ shows_json p row.shows ++ (label the.QueryRows ++ array_json (seen_json p.steps k) p.looks) ++ ranks_part p k ++ codes "}"
 
 abbrev pub class_at : Page → ℕ → ClassRow → List ℕ
 class_at p k row = before_item (codes ",") k ++ class_json p k row

@@ -25,7 +25,7 @@ wanted_json e = (codes "{\"select\":" ++ string_json e.text) ++ (codes ",\"value
 
 -- of how many orders it is so, and the first of which it is not
 abbrev pub so_json : List ClassRow → Expectation → List ℕ
-so_json rows e = (codes ",\"met\":" ++ decimal (met_from e 0 rows)) ++ (codes ",\"first\":" ++ first_json e rows) ++ codes "}"
+so_json rows e = (codes ",\"holds_in\":" ++ decimal (met_from e 0 rows)) ++ (codes ",\"first\":" ++ first_json e rows) ++ codes "}"
 
 abbrev pub expected_json : List ClassRow → Expectation → List ℕ
 expected_json rows e = wanted_json e ++ so_json rows e

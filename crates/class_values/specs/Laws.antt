@@ -6,7 +6,7 @@ use Rattle.order_classes.specs.Shows.{rest_of, seen}
 use Rattle.shown_values.specs.Strings.{array_json}
 use Rattle.shown_values.specs.Page.{left_json, open_from, opens_by}
 use Rattle.shown_values.specs.Laws.{IsFree}
-use Rattle.class_texts.specs.Laws.{table_of}
+use Rattle.binding_model.specs.declared.tables.Table.{Table}
 use Rattle.class_texts.specs.Pages.{Page}
 use Rattle.class_values.specs.Class.{open_of, tables_from}
 use Rattle.class_values.specs.Page.{classes_json}
@@ -14,6 +14,9 @@ use Rattle.class_values.specs.Page.{classes_json}
 -- no text ends the script that the object stands in, nor begins a reference
 abbrev pub ClassesAreFree : Type 0
 ClassesAreFree = (p : Page) (step_sessions : List ℕ) (statements : List (List ℕ)) → IsFree (classes_json p step_sessions statements)
+
+abbrev pub table_of : Left → Table
+table_of left = left.table
 
 -- the tables and the sessions that have not ended stand there as in the JSON of the order
 pub record LeftIsShown : Type 0 where

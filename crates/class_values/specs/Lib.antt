@@ -1,3 +1,4 @@
+pub mod Labels
 pub mod Totals
 pub mod Expected
 pub mod Class

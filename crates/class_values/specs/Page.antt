@@ -7,6 +7,8 @@ use Rattle.shown_values.specs.Strings.{array_json, string_json}
 use Rattle.shown_values.specs.Page.{step_json}
 use Rattle.class_texts.specs.Beneath.{Look}
 use Rattle.class_texts.specs.Pages.{Page}
+use Rattle.class_values.specs.Labels.{label}
+use Rattle.class_values.specs.declared.label.Label.TheVariants as the
 use Rattle.class_values.specs.Totals.{totals_json}
 use Rattle.class_values.specs.Expected.{expected_json}
 use Rattle.class_values.specs.Class.{classes_part}
@@ -25,7 +27,7 @@ missing_by Outcomes m = codes ",\"missing\":" ++ missing_json m
 -- of which spec the classes are, how many orders it has, and how many are told of
 abbrev pub orders_json : Page → List ℕ
 orders_json p =
-    (codes "{\"format\":1,\"name\":" ++ string_json p.path) ++ (codes ",\"orders\":" ++ decimal p.orders)
+    (codes "{\"format\":2,\"name\":" ++ string_json p.path) ++ (codes ",\"orders\":" ++ decimal p.orders)
     ++ (codes ",\"asked\":" ++ decimal p.totals.all.orders)
 
 -- and which are missing
@@ -38,6 +40,10 @@ numbers_json p step_sessions statements =
     (codes ",\"sessions\":" ++ array_json string_json p.sessions)
     ++ (codes ",\"steps\":" ++ array_json step_json (zip p.steps (zip step_sessions statements)))
 
+-- the lines of the file with a level that has no effect
+abbrev pub levels_json : Page → List ℕ
+levels_json p = codes ",\"level_lines\":" ++ array_json decimal p.level_lines
+
 abbrev pub by_json : ClassKind → List ℕ
 by_json Shows = codes "\"shows\""
 by_json Answers = codes "\"answers\""
@@ -49,12 +55,13 @@ look_json look = string_json look.text
 
 -- what is expected, and what looks are at
 abbrev pub asked_json : Page → List ℕ
-asked_json p = (codes ",\"expected\":" ++ array_json (expected_json p.rows) p.expectations) ++ (codes ",\"looks\":" ++ array_json look_json p.looks)
+asked_json p = (label the.Expectations ++ array_json (expected_json p.rows) p.expectations) ++ (label the.Queries ++ array_json look_json p.looks)
 
 -- by what the orders are grouped, and what is told of all of them
 abbrev pub grouped_json : Page → List ℕ
-grouped_json p = (codes ",\"by\":" ++ by_json p.by) ++ (codes ",\"totals\":" ++ totals_json p.by p.totals) ++ asked_json p
+grouped_json p = (codes ",\"by\":" ++ by_json p.by) ++ (codes ",\"totals\":" ++ totals_json p.by p.all_orders p.totals) ++ asked_json p
 
 -- the whole, by the session and the statements of each step
 abbrev pub classes_json : Page → List ℕ → List (List ℕ) → List ℕ
-classes_json p step_sessions statements = counts_json p ++ numbers_json p step_sessions statements ++ grouped_json p ++ classes_part p ++ codes "}\n"
+classes_json p step_sessions statements =
+    counts_json p ++ numbers_json p step_sessions statements ++ levels_json p ++ grouped_json p ++ classes_part p ++ codes "}\n"

@@ -1,5 +1,5 @@
 -- The JSON of the totals: how many orders and classes show what.
-use Rattle.std.specs.Prelude.{ℕ, List, ◌++◌, Option, Some, None, codes, decimal}
+use Rattle.std.specs.Prelude.{ℕ, Bool, true, false, List, ◌++◌, Option, Some, None, codes, decimal}
 use Rattle.std.specs.List.{join_by}
 use Rattle.order_classes.specs.declared.rows.Total.{Total}
 use Rattle.order_classes.specs.declared.rows.Totals.{Totals}
@@ -27,11 +27,24 @@ outcome_total totals Unsent = Some totals.unsent
 outcome_total totals Stuck = None
 outcome_total totals NotSerial = None
 
+-- no step is dropped in orders that clients can send
+abbrev pub sent_total : Totals → Letter → Option Total
+sent_total totals Waits = Some totals.waits
+sent_total totals Deadlock = Some totals.deadlock
+sent_total totals Error = Some totals.error
+sent_total totals Unsent = None
+sent_total totals Stuck = Some totals.stuck
+sent_total totals NotSerial = totals.not_serial
+
+abbrev pub class_total : Bool → Totals → Letter → Option Total
+class_total true totals letter = total_of totals letter
+class_total false totals letter = sent_total totals letter
+
 -- none of a letter that is not told
-abbrev pub told_total : ClassKind → Totals → Letter → Option Total
-told_total Shows totals letter = total_of totals letter
-told_total Answers totals letter = answered_total totals letter
-told_total Outcomes totals letter = outcome_total totals letter
+abbrev pub told_total : ClassKind → Bool → Totals → Letter → Option Total
+told_total Shows all totals letter = class_total all totals letter
+told_total Answers all totals letter = answered_total totals letter
+told_total Outcomes all totals letter = outcome_total totals letter
 
 -- how many orders, and how many classes
 abbrev pub both_json : Total → List ℕ
@@ -42,8 +55,8 @@ total_json None = codes "null"
 total_json (Some total) = both_json total
 
 -- a letter as a member
-abbrev pub letter_json : ClassKind → Totals → Letter → List ℕ
-letter_json by totals letter = (codes "\"" ++ sign letter) ++ (codes "\":" ++ total_json (told_total by totals letter))
+abbrev pub letter_json : ClassKind → Bool → Totals → Letter → List ℕ
+letter_json by all totals letter = (codes "\"" ++ sign letter) ++ (codes "\":" ++ total_json (told_total by all totals letter))
 
-abbrev pub totals_json : ClassKind → Totals → List ℕ
-totals_json by totals = codes "{" ++ join_by (letter_json by totals) (codes ",") (letters_of Shows) ++ codes "}"
+abbrev pub totals_json : ClassKind → Bool → Totals → List ℕ
+totals_json by all totals = codes "{" ++ join_by (letter_json by all totals) (codes ",") (letters_of Shows true) ++ codes "}"

@@ -1,15 +1,17 @@
 //! The JSON of classes.
 
-ghost use Rattle.std.specs.Prelude.{◌≡◌, ◌++◌, IfOk, OnOk, Some};
+ghost use Rattle.std.specs.Prelude.{◌≡◌, ◌++◌, IfOk, OnOk, Some, decimal};
 ghost use Rattle.shown_values.specs.Strings.{array_json};
 ghost use Rattle.class_values.specs.Page as spec;
 
 use crate::expected::push_expectations;
+use crate::label::Label;
 use crate::rows::push_classes;
 use crate::sheet::Sheet;
 use crate::totals::push_totals;
 use class_stretches::Missing;
 use class_texts::{ClassKind, Looked, Page};
+use itoa::Buffer;
 use lock_modes::Text;
 use shown_values::{push, push_before, push_count, push_names, push_steps, push_string, push_word};
 use std::alloc::{AllocError, Global};
@@ -21,6 +23,7 @@ pub fn classes_json(alloc: Global, sheet: &Sheet<'_>) -> Result<Vec<u8>, AllocEr
     let mut out = Vec::new(alloc);
     push_counts(sheet.page, &mut out)?;
     push_numbers(sheet.page, sheet.step_sessions, sheet.statements, &mut out)?;
+    push_levels(sheet.page, &mut out)?;
     push_grouped(sheet.page, &mut out)?;
     push_classes(sheet.page, &mut out)?;
     push("}\n", &mut out)?;
@@ -39,7 +42,7 @@ fn push_counts(page: &Page<'_>, out: &mut Vec<u8>) -> Result<(), AllocError>
 fn push_orders(page: &Page<'_>, out: &mut Vec<u8>) -> Result<(), AllocError>
     ensures { OnOk result (out.new.items ≡ out.old.items ++ spec.orders_json page.now) }
 {
-    push_string("{\"format\":1,\"name\":", page.path.as_bytes(), out)?;
+    push_string("{\"format\":2,\"name\":", page.path.as_bytes(), out)?;
     push_count(",\"orders\":", page.orders, out)?;
     push_count(",\"asked\":", page.totals.all.orders, out)
 }
@@ -90,12 +93,31 @@ fn push_numbers(
     push_steps(",\"steps\":", page.steps, step_sessions, statements, out)
 }
 
+/// Pushes the lines of the file with an isolation level that has no effect.
+fn push_levels(page: &Page<'_>, out: &mut Vec<u8>) -> Result<(), AllocError>
+    ensures { OnOk result (out.new.items ≡ out.old.items ++ spec.levels_json page.now) }
+{
+    push_level_lines(",\"level_lines\":", page.level_lines, out)
+}
+
+/// Pushes a label, and behind it these lines.
+fn push_level_lines(label: &str, lines: &[usize], out: &mut Vec<u8>) -> Result<(), AllocError>
+    ensures { OnOk result (out.new.items ≡ out.old.items ++ (label.now ++ array_json decimal lines.now)) }
+{
+    push_word(label, "[", out)?;
+    for (place, line) in lines.iter().enumerate() {
+        push_before(",", place, out)?;
+        push(Buffer::new().format(*line), out)?;
+    }
+    push("]", out)
+}
+
 /// Pushes by what the orders are grouped, and what is told of all of them.
 fn push_grouped(page: &Page<'_>, out: &mut Vec<u8>) -> Result<(), AllocError>
     ensures { OnOk result (out.new.items ≡ out.old.items ++ spec.grouped_json page.now) }
 {
     push_word(",\"by\":", by_word(page.by), out)?;
-    push_totals(",\"totals\":", page.by, page.totals, out)?;
+    push_totals(",\"totals\":", page.by, page.all_orders, page.totals, out)?;
     push_asked(page, out)
 }
 
@@ -103,8 +125,13 @@ fn push_grouped(page: &Page<'_>, out: &mut Vec<u8>) -> Result<(), AllocError>
 fn push_asked(page: &Page<'_>, out: &mut Vec<u8>) -> Result<(), AllocError>
     ensures { OnOk result (out.new.items ≡ out.old.items ++ spec.asked_json page.now) }
 {
-    push_expectations(",\"expected\":", page.rows, page.expectations, out)?;
-    push_looks(",\"looks\":", page.looks, out)
+    push_expectations(
+        Label::Expectations.text(),
+        page.rows,
+        page.expectations,
+        out,
+    )?;
+    push_looks(Label::Queries.text(), page.looks, out)
 }
 
 /// By what the orders are grouped, as a JSON string.

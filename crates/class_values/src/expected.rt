@@ -52,7 +52,7 @@ fn push_wanted(expected: &Expected<'_>, out: &mut Vec<u8>) -> Result<(), AllocEr
 fn push_so(rows: &[ClassRow], expected: &Expected<'_>, out: &mut Vec<u8>) -> Result<(), AllocError>
     ensures { OnOk result (out.new.items ≡ out.old.items ++ spec.so_json rows.now expected.now) }
 {
-    push_met(",\"met\":", rows, expected, out)?;
+    push_met(",\"holds_in\":", rows, expected, out)?;
     push_first(",\"first\":", rows, expected, out)?;
     push("}", out)
 }

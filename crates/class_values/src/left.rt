@@ -3,6 +3,7 @@
 ghost use Rattle.std.specs.Prelude.{◌≡◌, ◌++◌, ◌∷◌, MatchOption, OnOk, ℕ, [] as none};
 ghost use Rattle.class_values.specs.Class as spec;
 
+use crate::label::Label;
 use binding_model::Table;
 use class_texts::{ClassKind, rows_at};
 use lock_modes::{Row, Value};
@@ -48,10 +49,15 @@ pub(crate) fn push_left_part(
 {
     match by {
         ClassKind::Shows => {
-            push_left(",\"left\":", tables, shows.left.as_slice(), out)?;
-            push_open(",\"open\":", shows.rests.as_slice(), out)
+            push_left(Label::FinalRows.text(), tables, shows.left.as_slice(), out)?;
+            push_open(Label::Open.text(), shows.rests.as_slice(), out)
         }
-        ClassKind::Answers => push_left(",\"left\":", tables, shows.left.as_slice(), out),
+        ClassKind::Answers => push_left(
+            Label::FinalRows.text(),
+            tables,
+            shows.left.as_slice(),
+            out,
+        ),
         ClassKind::Outcomes => Ok(()),
     }
 }

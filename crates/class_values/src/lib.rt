@@ -3,6 +3,7 @@
 
 mod classes;
 mod expected;
+mod label;
 mod laws;
 mod left;
 mod rows;

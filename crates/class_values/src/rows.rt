@@ -4,6 +4,7 @@ ghost use Rattle.std.specs.Prelude.{◌≡◌, ◌++◌, OnOk};
 ghost use Rattle.shown_values.specs.Strings.{array_json};
 ghost use Rattle.class_values.specs.Class as spec;
 
+use crate::label::Label;
 use crate::left::push_left_part;
 use class_stretches::RankRun;
 use class_texts::{ClassKind, Looked, Page, letters_text, runs_at, seen_at};
@@ -64,33 +65,40 @@ fn push_class(
 ) -> Result<(), AllocError>
     ensures { OnOk result (out.new.items ≡ out.old.items ++ spec.class_json page.now place row.now) }
 {
-    push_head(page.by, row, out)?;
+    push_head(page, row, out)?;
     push_shows(page, &row.shows, out)?;
-    push_seen(",\"seen\":", page.steps, place, page.looks, out)?;
+    push_seen(Label::QueryRows.text(), page.steps, place, page.looks, out)?;
     push_ranks_part(page, place, out)?;
     push("}", out)
 }
 
 /// Pushes which orders a class has, what they show, and the least one.
-fn push_head(by: ClassKind, row: &ClassRow, out: &mut Vec<u8>) -> Result<(), AllocError>
-    ensures { OnOk result (out.new.items ≡ out.old.items ++ spec.head_json by row.now) }
+fn push_head(page: &Page<'_>, row: &ClassRow, out: &mut Vec<u8>) -> Result<(), AllocError>
+    ensures { OnOk result (out.new.items ≡ out.old.items ++ spec.head_json page.now row.now) }
 {
-    push_count("{\"least\":", row.least, out)?;
-    push_count(",\"orders\":", row.count, out)?;
-    push_letters(",\"shows\":", by, row.letters, out)?;
-    push_indices(",\"order\":", row.line.as_slice(), out)
+    push_count(Label::FirstRank.text(), row.least, out)?;
+    push_count(Label::ClassOrders.text(), row.count, out)?;
+    push_letters(
+        Label::Letters.text(),
+        page.by,
+        page.all_orders,
+        row.letters,
+        out,
+    )?;
+    push_indices(Label::Order.text(), row.line.as_slice(), out)
 }
 
 /// Pushes a label and the letters that are told behind it, as a JSON string.
 fn push_letters(
     label: &str,
     by: ClassKind,
+    all_orders: bool,
     letters: Letters,
     out: &mut Vec<u8>,
 ) -> Result<(), AllocError>
-    ensures { OnOk result (out.new.items ≡ out.old.items ++ (label.now ++ spec.letters_json by letters)) }
+    ensures { OnOk result (out.new.items ≡ out.old.items ++ (label.now ++ spec.letters_json by all_orders letters)) }
 {
-    let text = letters_text(*out.allocator(), by, letters)?;
+    let text = letters_text(*out.allocator(), by, all_orders, letters)?;
     push_string(label, text.as_str().as_bytes(), out)
 }
 
@@ -98,7 +106,12 @@ fn push_letters(
 fn push_shows(page: &Page<'_>, shows: &Shows, out: &mut Vec<u8>) -> Result<(), AllocError>
     ensures { OnOk result (out.new.items ≡ out.old.items ++ spec.shows_json page.now shows.now) }
 {
-    push_told(",\"told\":", page.steps, shows.told.sessions(), out)?;
+    push_told(
+        Label::Transcripts.text(),
+        page.steps,
+        shows.told.sessions(),
+        out,
+    )?;
     push_left_part(page.by, page.tables, shows, out)
 }
 

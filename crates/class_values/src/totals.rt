@@ -13,55 +13,87 @@ use std::alloc::AllocError;
 pub(crate) fn push_totals(
     label: &str,
     by: ClassKind,
+    all_orders: bool,
     totals: Totals,
     out: &mut Vec<u8>,
 ) -> Result<(), AllocError>
-    ensures { OnOk result (out.new.items ≡ out.old.items ++ (label.now ++ spec.totals_json by totals)) }
+    ensures { OnOk result (out.new.items ≡ out.old.items ++ (label.now ++ spec.totals_json by all_orders totals)) }
 {
     push_word(label, "{", out)?;
-    push_letters(by, totals, letters_of(ClassKind::Shows), out)?;
+    push_letters(
+        by,
+        all_orders,
+        totals,
+        letters_of(ClassKind::Shows, true),
+        out,
+    )?;
     push("}", out)
 }
 
 fn push_letters(
     by: ClassKind,
+    all_orders: bool,
     totals: Totals,
     letters: &[Letter],
     out: &mut Vec<u8>,
 ) -> Result<(), AllocError>
-    ensures { OnOk result (out.new.items ≡ out.old.items ++ join_by (spec.letter_json by totals) (codes ",") letters.now) }
+    ensures { OnOk result (out.new.items ≡ out.old.items ++ join_by (spec.letter_json by all_orders totals) (codes ",") letters.now) }
 {
     for (place, letter) in letters.iter().enumerate() {
         push_before(",", place, out)?;
-        push_letter(by, totals, *letter, out)?;
+        push_letter(by, all_orders, totals, *letter, out)?;
     }
     Ok(())
 }
 
 fn push_letter(
     by: ClassKind,
+    all_orders: bool,
     totals: Totals,
     letter: Letter,
     out: &mut Vec<u8>,
 ) -> Result<(), AllocError>
-    ensures { OnOk result (out.new.items ≡ out.old.items ++ spec.letter_json by totals letter) }
+    ensures { OnOk result (out.new.items ≡ out.old.items ++ spec.letter_json by all_orders totals letter) }
 {
     push_word("\"", letter.sign(), out)?;
-    push_total("\":", told_total(by, totals, letter), out)
+    push_total("\":", told_total(by, all_orders, totals, letter), out)
 }
 
 /// How many orders and classes show a letter: none where it is not told.
-fn told_total(by: ClassKind, totals: Totals, letter: Letter) -> Option<Total>
-    ensures { result ≡ spec.told_total by totals letter }
+fn told_total(by: ClassKind, all_orders: bool, totals: Totals, letter: Letter) -> Option<Total>
+    ensures { result ≡ spec.told_total by all_orders totals letter }
 {
     match by {
-        ClassKind::Shows => letter.total(totals),
+        ClassKind::Shows => class_total(all_orders, totals, letter),
         ClassKind::Answers => answered_total(totals, letter),
         ClassKind::Outcomes => outcome_total(totals, letter),
     }
 }
 
-/// The same of books, which know no rows that are left.
+/// The same of classes: whether a step is not sent is told where all permutations are counted.
+fn class_total(all_orders: bool, totals: Totals, letter: Letter) -> Option<Total>
+    ensures { result ≡ spec.class_total all_orders totals letter }
+{
+    if all_orders {
+        return letter.total(totals);
+    }
+    sent_total(totals, letter)
+}
+
+fn sent_total(totals: Totals, letter: Letter) -> Option<Total>
+    ensures { result ≡ spec.sent_total totals letter }
+{
+    match letter {
+        Letter::Waits => Some(totals.waits),
+        Letter::Deadlock => Some(totals.deadlock),
+        Letter::Error => Some(totals.error),
+        Letter::Unsent => None,
+        Letter::Stuck => Some(totals.stuck),
+        Letter::NotSerial => totals.not_serial,
+    }
+}
+
+/// The same of books, which know no final rows.
 fn outcome_total(totals: Totals, letter: Letter) -> Option<Total>
     ensures { result ≡ spec.outcome_total totals letter }
 {

@@ -11,6 +11,7 @@ use Rattle.command_line.specs.declared.wanted.Wanted.TheVariants as wanted
 use Rattle.command_line.specs.declared.ranks.WantedRanks.{WantedRanks}
 use Rattle.command_line.specs.declared.ranks.WantedRanks.TheVariants as wanted_ranks
 use Rattle.command_line.specs.Inputs.{is_input, repeats}
+use Rattle.wanted_classes.specs.declared.wanted.TheConstants.{DEFAULT_MEMORY}
 use Rattle.wanted_classes.specs.declared.wanted.WantedClasses.{WantedClasses}
 use Rattle.wanted_classes.specs.declared.wanted.WantedForm.TheVariants as wanted_form
 use Rattle.command_line.specs.declared.names.Name.{Name}
@@ -142,16 +143,18 @@ abbrev pub IsWanted : List (List ℕ) → Wanted → Type 0
 IsWanted words (wanted.Rank rank) = IsNumberAlone words rank
 IsWanted words (wanted.Names names) = (map (λ n. n.now) names.items ≡ words) × ((rank : ℕ) → IsNumberAlone words rank → ⊥)
 
--- the classes of all orders by what they show, each told with its least order alone
+-- the classes of all orders that clients can send by what they show, each told with its least order alone
 pub record AsksForNoMore (wanted : WantedClasses) : Type 0 where
-  pub shows : wanted.answers ≡ false
+  pub sendable : wanted.all_orders ≡ false
+  pub shows : wanted.by_result ≡ false
   pub all : wanted.filters.items ≡ []
-  pub no_looks : wanted.looks.items ≡ []
+  pub no_queries : wanted.queries.items ≡ []
   pub no_expectations : wanted.expectations.items ≡ []
   pub classes : wanted.brief ≡ false
   pub no_outcomes : wanted.outcomes ≡ false
-  pub no_left : wanted.left ≡ false
+  pub no_final_rows : wanted.final_rows ≡ false
   pub as_text : wanted.form ≡ wanted_form.Text
+  pub usual_memory : wanted.memory ≡ DEFAULT_MEMORY
 
 -- the ranks from the first up to but not the end
 abbrev pub range : ℕ → ℕ → WantedRanks

@@ -1,12 +1,15 @@
 //! The words of commands, as `clap` takes them.
 
-use crate::words::{DEFAULT_WORKERS_WORD, MAX_BOOKS, MAX_NAMES};
+use crate::words::{DEFAULT_MEMORY_WORD, DEFAULT_WORKERS_WORD, MAX_BOOKS, MAX_NAMES};
 use clap::{Arg, ArgAction, value_parser};
 use shard_board::MAX_SEATS;
 use std::alloc::{AllocError, Global};
 
 /// The words of an expectation, at most: a SELECT, and more values than a row has.
 const MAX_EXPECTED: usize = 1_000;
+
+/// The megabytes that states may take, at most.
+const MAX_MEMORY: i64 = 1_000_000;
 
 /// A word that a command takes: what it is called, what is told of it, and its form.
 #[derive(Clone, Copy, Drop)]
@@ -37,6 +40,8 @@ enum Form {
     Flag,
     /// `--name`, where books are named in place of a spec.
     FlagOfBooks,
+    /// `--name`, where all orders are counted.
+    FlagOfAllOrders,
     /// `--name`, of which some flags are refused.
     Page,
     /// `--name` or `--name=SESSION`, as often as wanted.
@@ -47,6 +52,8 @@ enum Form {
     Expectation,
     /// `--name N`
     Workers,
+    /// `--name MB`
+    Memory,
     /// `--name FILE`
     File,
     /// `--name BOOK`, as often as wanted, in place of a spec.
@@ -67,7 +74,7 @@ pub const SPEC_OR_BOOKS: Word = Word {
 
 pub const OF_BOOKS: Word = Word {
     name: "book",
-    help: "Groups what these books of one spec tell, in place of all orders of a spec",
+    help: "Group the outcomes in books instead of a spec",
     form: Form::InPlaceOfSpec,
 };
 
@@ -91,128 +98,140 @@ pub const ORDER: Word = Word {
 
 pub const JSON: Word = Word {
     name: "json",
-    help: "Prints it as JSON",
+    help: "Print JSON",
     form: Form::Flag,
 };
 
 pub const HTML: Word = Word {
     name: "html",
-    help: "Prints a page that a browser opens, with what happens in the first of each class",
+    help: "Print a web page with a timeline for each class",
     form: Form::Page,
 };
 
-pub const ANSWERS: Word = Word {
-    name: "answers",
-    help: "Groups them by rows, counts and errors, and by the rows left, alone",
+pub const ALL_ORDERS: Word = Word {
+    name: "all-orders",
+    help: "Count every permutation of the steps",
     form: Form::Flag,
 };
 
 pub const WAITS: Word = Word {
     name: "waits",
-    help: "Only those in which a session waits",
+    help: "Only orders in which a session waits",
     form: Form::Flag,
 };
 
 pub const NO_WAITS: Word = Word {
     name: "no-waits",
-    help: "Only those in which no session waits",
+    help: "Only orders in which no session waits",
     form: Form::Flag,
 };
 
 pub const DEADLOCK: Word = Word {
     name: "deadlock",
-    help: "Only those in which a session, or this one, loses a deadlock",
+    help: "Only orders with a deadlock, or with this victim",
     form: Form::Session,
 };
 
 pub const NO_DEADLOCK: Word = Word {
     name: "no-deadlock",
-    help: "Only those in which no session, or not this one, loses a deadlock",
+    help: "Only orders without a deadlock, or without this victim",
     form: Form::Session,
 };
 
 pub const ERROR: Word = Word {
     name: "error",
-    help: "Only those in which a session has another error of its own",
+    help: "Only orders with another error",
     form: Form::Flag,
 };
 
 pub const NO_ERROR: Word = Word {
     name: "no-error",
-    help: "Only those in which no session has another error of its own",
-    form: Form::Flag,
-};
-
-pub const UNSENT: Word = Word {
-    name: "unsent",
-    help: "Only those in which a step is not sent",
-    form: Form::Flag,
-};
-
-pub const NO_UNSENT: Word = Word {
-    name: "no-unsent",
-    help: "Only those in which each step is sent",
+    help: "Only orders without another error",
     form: Form::Flag,
 };
 
 pub const STUCK: Word = Word {
     name: "stuck",
-    help: "Only those in which a session still waits at the end",
+    help: "Only orders in which a session waits for ever",
     form: Form::Flag,
 };
 
 pub const NO_STUCK: Word = Word {
     name: "no-stuck",
-    help: "Only those in which no session waits at the end",
+    help: "Only orders in which no session waits for ever",
     form: Form::Flag,
 };
 
-pub const NO_SERIAL: Word = Word {
-    name: "no-serial",
-    help: "Only anomalies: no error, yet no serial order gives this result",
+pub const ANOMALY: Word = Word {
+    name: "anomaly",
+    help: "Only orders with an anomaly",
     form: Form::Flag,
 };
 
-pub const SERIAL: Word = Word {
-    name: "serial",
-    help: "Only those that are no anomaly",
+pub const NO_ANOMALY: Word = Word {
+    name: "no-anomaly",
+    help: "Only orders without an anomaly",
     form: Form::Flag,
 };
 
-pub const LOOK: Word = Word {
-    name: "look",
-    help: "Prints what it sees of what each class leaves too",
-    form: Form::Select,
+pub const NOT_SENT: Word = Word {
+    name: "not-sent",
+    help: "Only orders with a step not sent (--all-orders)",
+    form: Form::FlagOfAllOrders,
+};
+
+pub const NO_NOT_SENT: Word = Word {
+    name: "no-not-sent",
+    help: "Only orders with each step sent (--all-orders)",
+    form: Form::FlagOfAllOrders,
+};
+
+pub const BY_RESULT: Word = Word {
+    name: "by-result",
+    help: "Group by rows, counts, errors and final rows only",
+    form: Form::Flag,
 };
 
 pub const EXPECT: Word = Word {
     name: "expect",
-    help: "Tells of how many it sees one row with these values, and which is the first of the others",
+    help: "Check that a SELECT on the final rows returns these values",
     form: Form::Expectation,
 };
 
-pub const RANKS: Word = Word {
-    name: "ranks",
-    help: "Prints the numbers of each class too",
-    form: Form::FlagOfBooks,
+pub const QUERY: Word = Word {
+    name: "query",
+    help: "Run a SELECT on the final rows of each class",
+    form: Form::Select,
+};
+
+pub const FINAL_ROWS: Word = Word {
+    name: "final-rows",
+    help: "Print the final rows of each class",
+    form: Form::Flag,
 };
 
 pub const OUTCOMES: Word = Word {
     name: "outcomes",
-    help: "Prints what each session saw in the first of each class too",
+    help: "Print what each session receives, for each class",
     form: Form::Flag,
 };
 
-pub const LEFT: Word = Word {
-    name: "left",
-    help: "Prints what each class leaves too",
-    form: Form::Flag,
+pub const RANKS: Word = Word {
+    name: "ranks",
+    help: "Print the ranks of each class (--book)",
+    form: Form::FlagOfBooks,
 };
 
 pub const BRIEF: Word = Word {
     name: "brief",
-    help: "Prints the totals alone",
+    help: "Print the totals only",
     form: Form::Flag,
+};
+
+pub const MEMORY: Word = Word {
+    name: "memory",
+    help: "Megabytes that states may take, 1 to 1000000",
+    form: Form::Memory,
 };
 
 pub const FIRST: Word = Word {
@@ -253,7 +272,7 @@ pub const WORKERS: Word = Word {
 
 pub const PROGRESS: Word = Word {
     name: "progress",
-    help: "Tells on standard error how far it is",
+    help: "Report progress on standard error",
     form: Form::Flag,
 };
 
@@ -308,24 +327,26 @@ pub const JUNIT: Word = Word {
 /// What is not asked of books.
 static NOT_OF_BOOKS: &[&str] = &[
     "SPEC",
-    "answers",
+    "all-orders",
     "waits",
     "no-waits",
     "deadlock",
     "no-deadlock",
     "error",
     "no-error",
-    "unsent",
-    "no-unsent",
     "stuck",
     "no-stuck",
-    "no-serial",
-    "serial",
-    "look",
+    "anomaly",
+    "no-anomaly",
+    "not-sent",
+    "no-not-sent",
+    "by-result",
     "expect",
-    "left",
+    "query",
+    "final-rows",
     "html",
     "progress",
+    "memory",
 ];
 
 /// What stands for a spec.
@@ -345,11 +366,12 @@ fn formed<'a>(alloc: Global, word: &Word) -> Arg<'a> {
         Form::Number | Form::FirstOfAll | Form::EndOfAll => number(alloc, word),
         Form::Names => some(alloc, word, MAX_NAMES),
         Form::Books => some(alloc, word, MAX_BOOKS),
-        Form::Flag | Form::FlagOfBooks | Form::Page => flag(alloc, word),
+        Form::Flag | Form::FlagOfBooks | Form::FlagOfAllOrders | Form::Page => flag(alloc, word),
         Form::Session => session(alloc, word),
         Form::Select => select(alloc, word),
         Form::Expectation => expectation(alloc, word),
         Form::Workers => workers(alloc, word),
+        Form::Memory => memory(alloc, word),
         Form::File => file(alloc, word),
         Form::InPlaceOfSpec => books(alloc, word),
     }
@@ -362,6 +384,7 @@ fn ruled<'a>(form: Form, arg: Arg<'a>) -> Result<Arg<'a>, AllocError> {
         Form::FirstOfAll => arg.required(false).requires_arg("END"),
         Form::EndOfAll => Ok(arg.required(false)),
         Form::FlagOfBooks => arg.conflicts_with_all(OF_SPEC),
+        Form::FlagOfAllOrders => arg.requires_arg("all-orders"),
         Form::Page => arg.conflicts_with_all(NOT_OF_PAGES),
         Form::InPlaceOfSpec => arg.conflicts_with_all(NOT_OF_BOOKS),
         _ => Ok(arg),
@@ -425,6 +448,14 @@ fn workers<'a>(alloc: Global, word: &Word) -> Arg<'a> {
         .action(ArgAction::Set)
         .value_parser(value_parser!(u8).range(1..=i64::from(MAX_SEATS)))
         .default_value(DEFAULT_WORKERS_WORD)
+}
+
+fn memory<'a>(alloc: Global, word: &Word) -> Arg<'a> {
+    named(alloc, word)
+        .value_name("MB")
+        .action(ArgAction::Set)
+        .value_parser(value_parser!(u64).range(1..=MAX_MEMORY))
+        .default_value(DEFAULT_MEMORY_WORD)
 }
 
 fn file<'a>(alloc: Global, word: &Word) -> Arg<'a> {

@@ -9,6 +9,7 @@ mod names;
 mod paths;
 mod plain;
 mod ranks;
+mod renamed;
 mod wanted;
 mod words;
 

@@ -106,9 +106,9 @@ fn classes_of_words<'a>(
         return Ok(outcomes_with(words, books));
     }
     let filters = filters_of_words(alloc, words)?;
-    let looks = looks_of_words(alloc, words)?;
+    let queries = queries_of_words(alloc, words)?;
     let expectations = expectations_of_words(alloc, words)?;
-    Ok(classes_with(words, filters, looks, expectations))
+    Ok(classes_with(words, filters, queries, expectations))
 }
 
 fn outcomes_with<'a>(words: &ArgMatches<'a>, books: Vec<&'a str>) -> Option<Asked<'a>> {
@@ -126,21 +126,23 @@ fn outcomes_with<'a>(words: &ArgMatches<'a>, books: Vec<&'a str>) -> Option<Aske
 fn classes_with<'a>(
     words: &ArgMatches<'a>,
     filters: Vec<WantedFilter<'a>>,
-    looks: Vec<&'a str>,
+    queries: Vec<&'a str>,
     expectations: Vec<WantedExpectation<'a>>,
 ) -> Option<Asked<'a>> {
     let path = words.get_str("SPEC")?;
     Some(Asked::Classes {
         path,
         wanted: WantedClasses {
-            answers: words.get_flag("answers"),
+            all_orders: words.get_flag("all-orders"),
+            by_result: words.get_flag("by-result"),
             filters,
-            looks,
+            queries,
             expectations,
             brief: words.get_flag("brief"),
             outcomes: words.get_flag("outcomes"),
-            left: words.get_flag("left"),
+            final_rows: words.get_flag("final-rows"),
             form: form_of_words(words),
+            memory: words.get_one::<u64>("memory")?,
         },
         progress: words.get_flag("progress"),
     })
@@ -164,21 +166,19 @@ struct Flags {
     other: &'static str,
 }
 
-static FLAGS: [Flags; 5] = [
-    Flags {
-        test: WantedTest::Waits,
-        passing: "waits",
-        other: "no-waits",
-    },
+/// The flags that are told before those of deadlocks.
+static WAITS: Flags = Flags {
+    test: WantedTest::Waits,
+    passing: "waits",
+    other: "no-waits",
+};
+
+/// The flags that are told behind those of deadlocks.
+static FLAGS: [Flags; 4] = [
     Flags {
         test: WantedTest::Error,
         passing: "error",
         other: "no-error",
-    },
-    Flags {
-        test: WantedTest::Unsent,
-        passing: "unsent",
-        other: "no-unsent",
     },
     Flags {
         test: WantedTest::Stuck,
@@ -186,25 +186,39 @@ static FLAGS: [Flags; 5] = [
         other: "no-stuck",
     },
     Flags {
-        test: WantedTest::NotSerial,
-        passing: "no-serial",
-        other: "serial",
+        test: WantedTest::Anomaly,
+        passing: "anomaly",
+        other: "no-anomaly",
+    },
+    Flags {
+        test: WantedTest::NotSent,
+        passing: "not-sent",
+        other: "no-not-sent",
     },
 ];
 
-/// The filters that the words ask for.
+/// The filters that the words ask for, in the order of their letters.
 fn filters_of_words<'a>(
     alloc: Global,
     words: &ArgMatches<'a>,
 ) -> Result<Vec<WantedFilter<'a>>, AllocError> {
     let mut filters = Vec::new(alloc);
+    push_flags(words, &WAITS, &mut filters)?;
+    push_victims(words, "deadlock", true, &mut filters)?;
+    push_victims(words, "no-deadlock", false, &mut filters)?;
     for flags in &FLAGS {
-        push_flag(words, flags.passing, flags.test, true, &mut filters)?;
-        push_flag(words, flags.other, flags.test, false, &mut filters)?;
+        push_flags(words, flags, &mut filters)?;
     }
-    push_losers(words, "deadlock", true, &mut filters)?;
-    push_losers(words, "no-deadlock", false, &mut filters)?;
     Ok(filters)
+}
+
+fn push_flags<'a>(
+    words: &ArgMatches<'a>,
+    flags: &Flags,
+    filters: &mut Vec<WantedFilter<'a>>,
+) -> Result<(), AllocError> {
+    push_flag(words, flags.passing, flags.test, true, filters)?;
+    push_flag(words, flags.other, flags.test, false, filters)
 }
 
 fn push_flag<'a>(
@@ -221,7 +235,7 @@ fn push_flag<'a>(
 }
 
 /// A filter for each time that the flag stands there: by the session behind it, or by any.
-fn push_losers<'a>(
+fn push_victims<'a>(
     words: &ArgMatches<'a>,
     flag: &str,
     wanted: bool,
@@ -240,9 +254,9 @@ fn push_losers<'a>(
     Ok(())
 }
 
-fn looks_of_words<'a>(alloc: Global, words: &ArgMatches<'a>) -> Result<Vec<&'a str>, AllocError> {
-    match words.get_strs("look") {
-        Some(looks) => Vec::from_slice(alloc, looks),
+fn queries_of_words<'a>(alloc: Global, words: &ArgMatches<'a>) -> Result<Vec<&'a str>, AllocError> {
+    match words.get_strs("query") {
+        Some(queries) => Vec::from_slice(alloc, queries),
         None => Ok(Vec::new(alloc)),
     }
 }

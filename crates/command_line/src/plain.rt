@@ -13,7 +13,7 @@ use crate::wanted::wanted_of;
 use crate::words::{Asked, DEFAULT_WORKERS, MAX_BOOKS, MAX_NAMES};
 use shard_board::Workers;
 use std::alloc::{AllocError, Global};
-use wanted_classes::{WantedClasses, WantedForm};
+use wanted_classes::{DEFAULT_MEMORY, WantedClasses, WantedForm};
 
 /// What a plain line asks for, none where the words are no such line. The first of them is the program's name.
 pub(crate) fn plain_line<'a>(
@@ -194,14 +194,16 @@ fn classes_line<'a>(alloc: Global, rest: &'a [String]) -> Option<Asked<'a>>
         [path] => Some(Asked::Classes {
             path,
             wanted: WantedClasses {
-                answers: false,
+                all_orders: false,
+                by_result: false,
                 filters: Vec::new(alloc),
-                looks: Vec::new(alloc),
+                queries: Vec::new(alloc),
                 expectations: Vec::new(alloc),
                 brief: false,
                 outcomes: false,
-                left: false,
+                final_rows: false,
                 form: WantedForm::Text,
+                memory: DEFAULT_MEMORY,
             },
             progress: false,
         }),

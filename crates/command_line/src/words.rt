@@ -12,6 +12,7 @@ use crate::matches::asked_of;
 use crate::paths::Paths;
 use crate::plain::plain_line;
 use crate::ranks::WantedRanks;
+use crate::renamed::renamed_in;
 use crate::wanted::Wanted;
 use clap::Error;
 use clap::error::ErrorKind;
@@ -30,6 +31,9 @@ pub const DEFAULT_WORKERS: u8 = 4;
 
 /// The same number, as `clap` takes it.
 pub const DEFAULT_WORKERS_WORD: &str = "4";
+
+/// How many megabytes the states of a spec may take where the words name no number, as `clap` takes it.
+pub const DEFAULT_MEMORY_WORD: &str = "2000";
 
 /// What the words ask for.
 #[derive(Drop)]
@@ -165,11 +169,19 @@ fn input_again(alloc: Global) -> Result<Error, AllocError> {
 
 /// What words ask for that are no plain line.
 fn other_line<'a>(alloc: Global, words: &'a [String]) -> Result<Asked<'a>, Error> {
+    if let Some(told) = renamed_in(words) {
+        return Err(renamed_flag(alloc, told)?);
+    }
     let matches = command(alloc)?.try_get_matches_from(words)?;
     match asked_of(alloc, &matches)? {
         Some(asked) => Ok(asked),
         None => Err(no_command(alloc)?),
     }
+}
+
+/// The fault of words with a flag that has another name now.
+fn renamed_flag(alloc: Global, told: &str) -> Result<Error, AllocError> {
+    command(alloc)?.error(ErrorKind::UnknownArgument, told)
 }
 
 /// The fault of words that ask for nothing.

@@ -1,5 +1,5 @@
 -- What a path tells, by the spec that it is of.
-use Rattle.std.proofs.Common.{◌≡◌, ◌∙◌, sym, ap, subst, Bool, List}
+use Rattle.std.proofs.Common.{◌≡◌, sym, ap, subst, Bool, List}
 use Rattle.bound_specs.specs.Spec.{SpecFile}
 use Rattle.events.specs.declared.event.Event.{Event}
 use Rattle.machine_model.specs.World.{send_all, outcome_of}
@@ -15,10 +15,6 @@ pub path-told : (file : SpecFile) (p : MarkedPath) → IsPath file p
     → outcome_of p.world.file.run.sessions (send_all p.world.file.run.steps (first_world p.world.file.run) p.line.items)
     ≡ outcome_of file.run.sessions (send_all file.run.steps (first_world file.run) p.line.items)
 path-told file p is = ap (λ (f : SpecFile). outcome_of f.run.sessions (send_all f.run.steps (first_world f.run) p.line.items)) is.file_is
-
--- the world behind all steps
-pub path-world : (file : SpecFile) (p : MarkedPath) → IsPath file p → p.world.world ≡ send_all file.run.steps (first_world file.run) p.line.items
-path-world file p is = is.along.now ∙ ap (λ (f : SpecFile). send_all f.run.steps (first_world f.run) p.line.items) is.file_is
 
 -- where more was told and the machine has caught up, the path is the same
 pub path-told-more : (file : SpecFile) (p : MarkedPath) (told : List (List (List Event))) (level : Bool) → IsPath file p

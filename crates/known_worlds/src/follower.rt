@@ -19,19 +19,6 @@ pub(crate) struct Follower<'a> {
     pub(crate) is_rooted: bool,
 }
 
-impl<'a> Follower<'a> {
-    /// The machine, when it has made all moves.
-    pub(crate) fn caught_up(&self, path: &[Move]) -> &MarkedWorld<'a>
-        requires follows { Follows self.now.machine.file path.now self.now }
-        requires level { is_level self.now path.now ≡ true }
-        ensures is { result.now ≡ self.now.machine }
-        ensures world { result.now.world ≡ world_behind self.now.machine.file.run.steps (first_world self.now.machine.file.run) path.now }
-        ensures whole { result.now.spent ≡ false }
-    {
-        &self.machine
-    }
-}
-
 impl Follower<'_> {
     /// Makes all moves that are not made. Where that is refused the machine has made fewer, and may be asked again.
     pub(crate) fn catch_up(&mut self, path: &[Move]) -> Result<(), AllocError>

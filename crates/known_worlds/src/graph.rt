@@ -37,11 +37,9 @@ pub(crate) struct PairAnswer {
 /// found by one look. Where memory is refused something is not remembered.
 #[derive(Drop)]
 pub(crate) struct Graph {
-    /// How many steps the spec has.
-    pub(crate) steps: u8,
-    /// How many sessions it has.
+    /// How many sessions the spec has.
     pub(crate) sessions: u8,
-    /// For each world an item for each step.
+    /// For each world an item for each session, for its next step. Lines that send the steps of a session in another order share the item.
     pub(crate) edges: Vec<Option<Edge>>,
     /// For each world one item.
     pub(crate) told: Vec<Option<ToldWorld>>,
@@ -55,7 +53,6 @@ impl Graph {
         ensures { (r : LateRunning) → IsGraph r result }
     {
         Graph {
-            steps: spec.steps(),
             sessions: spec.sessions(),
             edges: Vec::new(alloc),
             told: Vec::new(alloc),
@@ -63,12 +60,15 @@ impl Graph {
         }
     }
 
-    /// The number of the world to which a step leads, if it is known.
-    pub(crate) fn next(&self, at: Option<u32>, step: u8) -> Option<u32>
+    /// The number of the world to which a step of this session leads, if it is known.
+    pub(crate) fn next(&self, at: Option<u32>, session: u8, step: u8) -> Option<u32>
         ensures { (r : LateRunning) → IsGraph r self.now → IsNoted r.seen at r.world → IsNoted r.seen result (send r.file.run.steps r.world step) }
     {
         let from = at?;
-        let edge = item_at(self.edges.as_slice(), edge_place(self.steps, from, step))?;
+        let edge = item_at(
+            self.edges.as_slice(),
+            edge_place(self.sessions, from, session),
+        )?;
         if edge.from == from && edge.step == step {
             Some(edge.to)
         } else {
@@ -76,15 +76,15 @@ impl Graph {
         }
     }
 
-    /// Remembers where a step leads.
-    pub(crate) fn note_next(&mut self, at: Option<u32>, step: u8, to: Option<u32>)
+    /// Remembers where a step of this session leads.
+    pub(crate) fn note_next(&mut self, at: Option<u32>, session: u8, step: u8, to: Option<u32>)
         ensures { (r : LateRunning) (w : World) → IsGraph r self.old → IsNoted r.seen at w → IsNoted r.seen to (send r.file.run.steps w step) → IsGraph r self.new }
     {
         if let Some(from) = at {
             if let Some(to) = to {
                 put_at(
                     &mut self.edges,
-                    edge_place(self.steps, from, step),
+                    edge_place(self.sessions, from, session),
                     Edge { from, step, to },
                 );
             }
@@ -158,10 +158,10 @@ impl Graph {
 }
 
 #[inline(always)]
-fn edge_place(steps: u8, from: u32, step: u8) -> usize {
+fn edge_place(sessions: u8, from: u32, session: u8) -> usize {
     (from as usize)
-        .wrapping_mul(steps as usize)
-        .wrapping_add(step as usize)
+        .wrapping_mul(sessions as usize)
+        .wrapping_add(session as usize)
 }
 
 #[inline(always)]

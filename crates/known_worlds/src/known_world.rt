@@ -12,7 +12,6 @@ ghost use Rattle.known_worlds.specs.Remembered.{are_quiet, AreNoted, IsGraph, Is
 use crate::graph::Graph;
 use crate::late_world::LateWorld;
 use bound_specs::Spec;
-use marked_worlds::MarkedWorld;
 use session_steps::{SendError, StartError};
 use std::alloc::{AllocError, Global};
 use std::marker::Model;
@@ -22,7 +21,7 @@ use transcripts::Outcome;
 /// is known no machine runs.
 ///
 /// Contracts see what they see of a `MarkedWorld`, and the calls that both have promise the same. What is remembered is not seen, nor which worlds were
-/// noted; but whether the machine has made all that was asked (`level`), for who asks it more.
+/// noted; but whether the machine has made all that was asked (`level`).
 pub struct KnownWorld<'a> {
     late: LateWorld<'a>,
     graph: Graph,
@@ -95,19 +94,6 @@ impl<'a> KnownWorld<'a> {
     {
         self.late.spec()
     }
-
-    /// The machine, when it stands in the world now. It has marks of its own, and the worlds that it has noted.
-    pub fn machine(&self) -> &MarkedWorld<'a>
-        requires { self.now.level ≡ true }
-        ensures world { result.now.world ≡ self.now.world }
-        ensures of_spec { result.now.file ≡ self.now.file }
-        ensures numbers { result.now.numbers ≡ self.now.numbers }
-        ensures told { result.now.told ≡ self.now.told }
-        ensures whole { result.now.spent ≡ false }
-        ensures now { self.now.spent ≡ false }
-    {
-        self.late.machine()
-    }
 }
 
 impl KnownWorld<'_> {
@@ -169,19 +155,6 @@ impl KnownWorld<'_> {
         self.late.go_back();
         self.at = newest(&mut self.marks);
         self.is_spent = false;
-    }
-
-    /// Lets the machine catch up with this world, for who asks it more. A spent one does not. Where memory is refused it may be asked again.
-    pub fn catch_up(&mut self) -> Result<(), SendError>
-        ensures level { OnOk result (self.new ≡ record self.old { level = true }) }
-        ensures spent { IsErrOf result SendError.Spent ↔ (self.old.spent ≡ true) }
-        ensures same { self.new ≡ record self.old { level = self.new.level } }
-    {
-        if self.is_spent {
-            return Err(SendError::Spent);
-        }
-        self.late.catch_up()?;
-        Ok(())
     }
 
     /// Tells the transcripts so far, one for each session: the answer is their number among the outcomes that were told. They are copied where the sessions
@@ -266,13 +239,14 @@ fn step_on(
     ensures front { IsPrefix late.old.seen late.new.seen }
     ensures same { late.new ≡ record late.old { world = late.new.world; seen = late.new.seen; level = late.new.level } }
 {
-    let known = graph.next(at, step);
+    let session = late.spec().session_of(step);
+    let known = graph.next(at, session, step);
     late.send(step)?;
     match known {
         Some(to) => Ok(Some(to)),
         None => {
             let to = number_of(late)?;
-            graph.note_next(at, step, to);
+            graph.note_next(at, session, step, to);
             Ok(to)
         }
     }

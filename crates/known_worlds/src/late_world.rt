@@ -1,7 +1,7 @@
 //! A world whose machine runs only when something is asked of it.
 
 ghost use mathlib.Core.List.{IsPrefix};
-ghost use Rattle.std.specs.Prelude.{◌≡◌, ◌<◌, ◌∷◌, [], IfErr, IfOk, IfSome, OnErr, OnOk, Some, false, length, slice_get, true};
+ghost use Rattle.std.specs.Prelude.{◌≡◌, ◌<◌, ◌∷◌, [], IfErr, IfOk, IfSome, OnErr, OnOk, Some, false, length, slice_get};
 ghost use Rattle.machine_model.specs.Outcome.{IsOutcomeOf};
 ghost use Rattle.machine_model.specs.Start.{Started, start};
 ghost use Rattle.machine_model.specs.World.{outcome_of, send};
@@ -84,18 +84,6 @@ impl<'a> LateWorld<'a> {
     {
         self.follower.machine.spec()
     }
-
-    /// The machine, when it has made all moves. It has marks of its own.
-    pub(crate) fn machine(&self) -> &MarkedWorld<'a>
-        requires { self.now.level ≡ true }
-        ensures world { result.now.world ≡ self.now.world }
-        ensures of_spec { result.now.file ≡ self.now.file }
-        ensures numbers { result.now.numbers ≡ self.now.numbers }
-        ensures told { result.now.told ≡ self.now.told }
-        ensures whole { result.now.spent ≡ false }
-    {
-        self.follower.caught_up(self.path.as_slice())
-    }
 }
 
 impl LateWorld<'_> {
@@ -129,15 +117,6 @@ impl LateWorld<'_> {
         };
         self.follower.leave(self.path.as_slice(), place);
         self.path.truncate(place);
-    }
-
-    /// Lets the machine make all moves.
-    pub(crate) fn catch_up(&mut self) -> Result<(), AllocError>
-        ensures level { OnOk result (self.new ≡ record self.old { level = true }) }
-        ensures same { self.new ≡ record self.old { level = self.new.level } }
-    {
-        self.follower.catch_up(self.path.as_slice())?;
-        Ok(())
     }
 
     /// The number of the world now among those that were noted.

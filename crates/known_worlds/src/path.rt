@@ -1,7 +1,7 @@
 //! A line with the world behind it.
 
 ghost use mathlib.Core.List.{IsPrefix};
-ghost use Rattle.std.specs.Prelude.{◌≡◌, ◌<◌, All, IfErr, IfOk, OnOk, Some, [], false, true, get_or, length, slice_get};
+ghost use Rattle.std.specs.Prelude.{◌≡◌, ◌<◌, All, IfErr, IfOk, OnOk, Some, [], get_or, length, slice_get};
 ghost use Rattle.bound_specs.specs.Spec.{no_step};
 ghost use Rattle.machine_model.specs.Start.{start};
 ghost use Rattle.machine_model.specs.World.{outcome_of, send_all};
@@ -14,7 +14,6 @@ use crate::KnownWorld;
 use crate::front::shared_front;
 use crate::steps::{go_back, go_on};
 use bound_specs::{Line, Spec};
-use marked_worlds::MarkedWorld;
 use session_steps::StartError;
 use std::alloc::{AllocError, Global};
 use transcripts::Outcome;
@@ -66,29 +65,6 @@ impl<'a> MarkedPath<'a> {
         go_on(&mut self.world, line.as_slice(), shared)?;
         self.line = line;
         Ok(shared)
-    }
-
-    /// Sees to it that the machine stands behind all steps, for who looks at its world. The path stays as it is.
-    pub fn settle(&mut self) -> Result<(), AllocError>
-        requires { self.old.world.spent ≡ false }
-        ensures level { OnOk result (self.new.world.level ≡ true) }
-        ensures same { self.new ≡ record self.old { world = record self.old.world { level = self.new.world.level } } }
-    {
-        match self.world.catch_up() {
-            Ok(()) => Ok(()),
-            Err(_) => Err(AllocError),
-        }
-    }
-
-    /// The world behind all steps, of a path whose machine stands there.
-    pub fn world(&self) -> &MarkedWorld<'a>
-        requires { self.now.world.level ≡ true }
-        ensures world { result.now.world ≡ self.now.world.world }
-        ensures of_spec { result.now.file ≡ self.now.world.file }
-        ensures told { result.now.told ≡ self.now.world.told }
-        ensures whole { result.now.spent ≡ false }
-    {
-        self.world.machine()
     }
 
     /// Tells the transcripts behind all steps: the answer is their number among the outcomes that were told.

@@ -111,6 +111,13 @@ impl MarkedRows {
         self.places.count()
     }
 
+    /// About how many bytes the rows take that were written since the newest mark, or ever where no mark stands, also those that were written over or
+    /// undone since. A picture that is taken now keeps them alive when the rows go back to the mark, so this belongs to what it costs. Counted are the
+    /// rows, their values and the texts of these; rows that were written before the mark are not.
+    pub fn written_bytes(&self) -> usize {
+        self.rows.new_bytes()
+    }
+
     /// Whether the rows now are those of a picture. Where something was written at a new place since the picture was taken the answer is false. It takes
     /// no memory.
     pub fn is_pictured(&self, picture: &RowsPicture) -> bool

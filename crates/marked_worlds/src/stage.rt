@@ -30,8 +30,8 @@ use std::marker::Model;
 use std::sync::Arc;
 use transcripts::Outcome;
 
-/// `note` notes stages until they take so many bytes.
-const MOST_SEEN: usize = 24 << 20;
+/// `note` notes stages until they take so many bytes, with what walks remember beside them.
+const MOST_SEEN: usize = 32 << 20;
 
 /// `note` notes a stage with so many cells and resources when it comes first.
 const SMALL_STAGE: usize = 112;
@@ -39,7 +39,8 @@ const SMALL_STAGE: usize = 112;
 /// So many stages with the print of the one now are compared with it, so that many stages with one print don't cost the square of their number.
 const MOST_COMPARED: usize = 64;
 
-/// What is noted of a stage takes so many bytes for each place at which something was written: what lies there, with its key.
+/// What is noted of a stage takes so many bytes for each place at which something was written: what lies there, with its key. The rows there are counted
+/// by `MarkedRows::written_bytes`, each at the stage behind the step that wrote it.
 const PLACE_BYTES: usize = 80;
 
 /// So many for each resource: the modes that sessions hold on it.
@@ -50,6 +51,16 @@ const SESSION_BYTES: usize = 80;
 
 /// And so many beside: the lists that have all that, with what allocations and lists that grow take, and the place in the index.
 const STAGE_BYTES: usize = 640;
+
+/// A walk remembers so many bytes for each session beside a stage that `note` has noted: to which stage its next step leads. A list that grows has room
+/// for up to twice as much.
+const EDGE_BYTES: usize = 24;
+
+/// So many for each two sessions: whether their next steps are quiet.
+const PAIR_BYTES: usize = 16;
+
+/// And so many for the number of what the stage told.
+const OUTCOME_BYTES: usize = 32;
 
 /// The rows, the locks and the sessions of a world, with marks to go back to.
 ///
@@ -192,11 +203,11 @@ impl MarkedStage {
             self.seen.newest.insert(print, None)?;
             return Ok(None);
         }
-        Ok(Some(self.add(print, count)?))
+        Ok(Some(self.add(print, count, walk_bytes(count))?))
     }
 
-    /// As `note`, but each stage is noted while all that is noted takes fewer bytes than there is room for. None where it is not found and the room is
-    /// used up.
+    /// As `note`, but for who remembers nothing beside stages: each stage is noted while all that is noted takes fewer bytes than there is room for. None
+    /// where it is not found and the room is used up.
     pub(crate) fn note_within(
         &mut self,
         count: u8,
@@ -214,16 +225,16 @@ impl MarkedStage {
         if self.seen.bytes >= room {
             return Ok(None);
         }
-        Ok(Some(self.add(print, count)?))
+        Ok(Some(self.add(print, count, 0)?))
     }
 
-    /// How many bytes all that is noted of stages takes, or a few more.
+    /// How many bytes all that is noted of stages takes, or a few more, with what walks remember beside those that `note` noted.
     pub(crate) fn noted_bytes(&self) -> usize {
         self.seen.bytes
     }
 
-    /// Notes the stage now, with so many sessions, behind all others. The answer is its number.
-    fn add(&mut self, print: u64, count: u8) -> Result<usize, AllocError>
+    /// Notes the stage now, with so many sessions, behind all others. The answer is its number. So many bytes are taken beside it.
+    fn add(&mut self, print: u64, count: u8, beside: usize) -> Result<usize, AllocError>
         requires { count ≡ length self.old.now.members }
         ensures known { IfOk result (λ number. slice_get self.new.seen number ≡ Some self.old.now) }
         ensures front { IsPrefix self.old.seen self.new.seen }
@@ -240,7 +251,8 @@ impl MarkedStage {
             earlier,
         )?;
         self.seen.stages.push(stage)?;
-        self.seen.bytes = self.seen.bytes.saturating_add(self.bytes(count));
+        let bytes = self.bytes(count).saturating_add(beside);
+        self.seen.bytes = self.seen.bytes.saturating_add(bytes);
         self.seen.newest.insert(print, Some(number))?;
         Ok(number)
     }
@@ -265,9 +277,11 @@ impl MarkedStage {
     /// How many bytes what is noted of the stage takes.
     fn bytes(&self, count: u8) -> usize {
         let places = self.rows.places().saturating_mul(PLACE_BYTES);
+        let rows = self.rows.written_bytes();
         let resources = self.numbers.count().saturating_mul(RESOURCE_BYTES);
         let sessions = (count as usize).saturating_mul(SESSION_BYTES);
         places
+            .saturating_add(rows)
             .saturating_add(resources)
             .saturating_add(sessions)
             .saturating_add(STAGE_BYTES)
@@ -402,4 +416,14 @@ impl Stage for MarkedStage {
     }
 
     ghost counts = { λ x. refl };
+}
+
+/// How many bytes a walk takes for what it remembers beside a stage with so many sessions. The control session is one of these, and sends no step.
+fn walk_bytes(count: u8) -> usize {
+    let sessions = (count as usize).saturating_sub(1);
+    let pairs = sessions.saturating_mul(sessions);
+    sessions
+        .saturating_mul(EDGE_BYTES)
+        .saturating_add(pairs.saturating_mul(PAIR_BYTES))
+        .saturating_add(OUTCOME_BYTES)
 }

@@ -204,7 +204,7 @@ impl MarkedWorld<'_> {
         Ok(self.stage.note_within(self.spec.sessions() + 1, room)?)
     }
 
-    /// How many bytes all that is noted of worlds takes, or a few more.
+    /// How many bytes all that is noted of worlds takes, or a few more, with what walks remember beside those that `number` noted.
     pub fn noted_bytes(&self) -> usize {
         self.stage.noted_bytes()
     }

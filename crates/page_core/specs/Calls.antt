@@ -17,8 +17,7 @@ use Rattle.spec_commands.specs.declared.showing.WantedOrder.TheVariants.{Rank}
 use Rattle.spec_findings.specs.Told.{AreTold}
 use Rattle.wanted_classes.specs.declared.wanted.WantedClasses.{WantedClasses}
 use Rattle.wanted_classes.specs.declared.wanted.WantedForm.TheVariants as form
-use Rattle.wanted_classes.specs.declared.wanted.WantedForm.TheVariants as form
-use Rattle.class_commands.specs.Classing.{IsTellingOf}
+use Rattle.class_commands.specs.Classing.{HasManyStates, IsTellingOf}
 use Rattle.class_commands.specs.declared.classing.ClassesFault.{ClassesFault}
 use Rattle.class_commands.specs.declared.classing.ClassesFault.TheVariants as classes_fault
 use Rattle.page_core.specs.Ends.{classes_end, end_of, show_end, spec_end}
@@ -72,21 +71,22 @@ IsShowCall bytes name rank old new end answered =
 
 -- all orders as JSON, by all that they show or by what they answer
 pub record IsWanted (answers : Bool) (wanted : WantedClasses) : Type 0 where
-  pub answers_are : wanted.answers ≡ answers
+  pub sent : wanted.all_orders ≡ false
+  pub answers_are : wanted.by_result ≡ answers
   pub all : wanted.filters.items ≡ []
-  pub no_looks : wanted.looks.items ≡ []
+  pub no_looks : wanted.queries.items ≡ []
   pub no_expectations : wanted.expectations.items ≡ []
   pub whole : wanted.brief ≡ false
   pub no_outcomes : wanted.outcomes ≡ false
-  pub nothing_left : wanted.left ≡ false
+  pub nothing_left : wanted.final_rows ≡ false
   pub as_json : wanted.form ≡ form.Json
 
--- why classes are not told: the bytes are no spec file; the orders are not run; or memory ran out
+-- why classes are not told: the bytes are no spec file; the orders are not run; there is no room for all states; or memory ran out
 abbrev pub AreNotTold : List ℕ → ClassesFault → Type 0
 AreNotTold bytes (classes_fault.Spec fault) = IsNoSpec bytes fault
 AreNotTold bytes (classes_fault.Run error) = (file : SpecFile) × IsFileOf bytes file × IsNotRunBy error (start file.run)
 AreNotTold bytes (classes_fault.Asked fault) = Unit {0}
-AreNotTold bytes (classes_fault.TooMany noted) = Unit {0}
+AreNotTold bytes (classes_fault.TooMany noted) = (file : SpecFile) × IsFileOf bytes file × HasManyStates file
 AreNotTold bytes classes_fault.NoMemory = Unit {0}
 AreNotTold bytes (classes_fault.Write fault) = Unit {0}
 

@@ -11,10 +11,10 @@ use class_commands::{ClassesFault, classes};
 use schedule_counts::Unwatched;
 use std::alloc::Global;
 use transcripts::Counted;
-use wanted_classes::{WantedClasses, WantedForm};
+use wanted_classes::{DEFAULT_MEMORY, WantedClasses, WantedForm};
 
-/// The JSON of the classes of all orders, of the spec under a name, by all that they show or by what they answer: the bytes that
-/// `isofarm classes SPEC --json` prints, with `--answers`.
+/// The JSON of the classes of the orders that clients can send, of the spec under a name, by all that they show or by what they answer: the bytes that
+/// `isofarm classes SPEC --json` prints, or with `--by-result`.
 #[unsafe(no_mangle)]
 pub extern "C" fn page_classes(
     alloc: Global,
@@ -41,13 +41,15 @@ fn wanted(alloc: Global, answers: bool) -> WantedClasses<'static>
     ensures { IsWanted answers result }
 {
     WantedClasses {
-        answers,
+        all_orders: false,
+        memory: DEFAULT_MEMORY,
+        by_result: answers,
         filters: Vec::new(alloc),
-        looks: Vec::new(alloc),
+        queries: Vec::new(alloc),
         expectations: Vec::new(alloc),
         brief: false,
         outcomes: false,
-        left: false,
+        final_rows: false,
         form: WantedForm::Json,
     }
 }

@@ -1,4 +1,4 @@
--- What the program finds of specs beside the accepted texts of their classes.
+-- What the program finds of specs beside the accepted records of their classes.
 use Rattle.std.specs.Prelude.{◌≡◌, ◌≢◌, ◌⊎◌, ℕ, Bool, true, false, cond, nat_lt, List, [], ◌∷◌, take, None, IfSome, Result, Ok, Err}
 use Rattle.std.specs.List.{AllZip}
 use Rattle.book_commands.specs.declared.finding.Finding.{Finding}
@@ -18,18 +18,18 @@ use Rattle.program_commands.specs.Faults.{Path, classing_told}
 
 -- ---- one spec
 
--- of the spec file at a path: what is read of it, its name, and the path of its accepted text
+-- of the spec file at a path: what is read of it, its name, and the path of its accepted record
 pub record IsSpecAt (files : Files) (path bytes name accepted : List ℕ) : Type 0 where
   pub read : IfSome (files path) (λ all. bytes ≡ take MAX_SPEC_READ all)
   pub named : IsFileName path name
   pub beside : IsAcceptedPath path accepted
 
--- what the text of its classes is beside its own accepted text, where the bytes of both are known
+-- what its record is beside its own accepted record, where the bytes of both are known
 abbrev pub IsCompared : Files → List ℕ → (List ℕ → List ℕ → Type 0) → Type 0
 IsCompared files path Are =
     (bytes name accepted text : List ℕ) × IsSpecAt files path bytes name accepted × IsText bytes name text × IfSome (files accepted) (λ known. Are known text)
 
--- where accepted texts are left as they are
+-- where accepted records are left as they are
 abbrev pub IsUnless : Bool → Type 0 → Type 0
 IsUnless true Is = Unit {0}
 IsUnless false Is = Is
@@ -53,11 +53,11 @@ IsRefusedAt files path =
     (bytes name accepted : List ℕ) × IsSpecAt files path bytes name accepted
     × ((fault : ClassesFault) × IsNotTested (files accepted) bytes name (test.Classes fault) × ((told : Path) × (fault_found (classing_told told fault) ≡ Refused)))
 
--- it is not read, or its accepted text is not; or that is to be written
+-- it is not read, or its accepted record is not; or that is to be written
 abbrev pub IsUnreadAt : Files → Bool → List ℕ → Type 0
 IsUnreadAt files updates path = (files path ≡ None) ⊎ (((accepted : List ℕ) × IsAcceptedPath path accepted × (files accepted ≡ None)) ⊎ (updates ≡ true))
 
--- what is found of one spec: unless its accepted text is written, nothing is amiss where the text of its classes is the accepted one, and something is
+-- what is found of one spec: unless its accepted record is written, nothing is amiss where its record is the accepted one, and something is
 -- where it is another, or where there is none
 abbrev pub IsFoundOf : Files → Bool → List ℕ → Finding → Type 0
 IsFoundOf files updates path Good = IsCompared files path (λ known text. IsUnless updates (known ≡ text))

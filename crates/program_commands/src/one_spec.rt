@@ -1,4 +1,4 @@
-//! What is found of one spec beside the accepted text of its classes.
+//! What is found of one spec beside the accepted record of its classes.
 
 ghost use Rattle.std.specs.Prelude.{◌≡◌, ◌⊎◌, ℕ, List, false, true};
 ghost use Rattle.book_commands.specs.Joining.{Files};
@@ -92,7 +92,7 @@ fn fault_of<'p>(path: &'p str, accepted: &'p str, fault: TestFault) -> ProgramFa
     }
 }
 
-/// Whether the accepted text is that of the classes, or how it differs.
+/// Whether the accepted record is that of the classes, or how it differs.
 fn compared(alloc: Global, bytes: &[u8], tested: &Tested) -> Found
     ensures { (files : Files) (path name accepted : List ℕ) → IsSpecAt files path bytes.now name accepted → IsTested (files accepted) bytes.now name tested.now → IsFoundOf files false path result.finding }
 {
@@ -103,7 +103,7 @@ fn compared(alloc: Global, bytes: &[u8], tested: &Tested) -> Found
     }
 }
 
-/// How the text of the classes differs from the accepted one.
+/// How the record differs from the accepted one.
 fn changed(alloc: Global, accepted: &[u8], text: &[u8]) -> Found
     ensures { (result.finding ≡ Bad) ⊎ (result.finding ≡ NoMemory) }
 {
@@ -113,7 +113,7 @@ fn changed(alloc: Global, accepted: &[u8], text: &[u8]) -> Found
     }
 }
 
-/// How the text of the classes differs from the accepted one, in lines.
+/// How the record differs from the accepted one, in lines.
 fn changes_of(alloc: Global, accepted: &[u8], text: &[u8]) -> Result<String, AllocError> {
     let Ok(was) = str::from_utf8(accepted) else {
         return changes_text(alloc, &Changes::Unread);
@@ -176,7 +176,7 @@ fn behind<'t>(path: &str, line: &'t str) -> &'t str {
         Some(rest) => rest,
         None => return told,
     };
-    // Another path may begin with this one, as that of an accepted text does.
+    // Another path may begin with this one, as that of an accepted record does.
     match rest.strip_prefix(": ") {
         Some(text) => text,
         None => told,

@@ -21,7 +21,7 @@ struct Placed {
     found: Found,
 }
 
-/// What is found of each of some specs, whose accepted texts are left as they are, in their order. As many are tested at a time as there are workers.
+/// What is found of each of some specs, whose accepted records are left as they are, in their order. As many are tested at a time as there are workers.
 pub(crate) fn test_side_by_side<R: Threads + Sync, F: Folder + Sync>(
     rt: &R,
     alloc: Global,

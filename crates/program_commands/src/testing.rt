@@ -1,4 +1,4 @@
-//! Specs beside the accepted texts of their classes.
+//! Specs beside the accepted records of their classes.
 
 ghost use Rattle.std.specs.Prelude.{◌≡◌, ℕ, Bool, true, false, Err, List, IfOk, IfErr, OnOk, is_some, length, map, string_bytes, vec_len};
 ghost use Rattle.transcripts.specs.Counted.{failures_of};
@@ -26,7 +26,7 @@ const AHEAD: usize = 64;
 pub(crate) struct TestWords<'w, 'a> {
     /// Spec files, and folders of them.
     pub(crate) paths: &'w [&'a str],
-    /// Whether accepted texts are written that are not those of the classes.
+    /// Whether accepted records are written that are not those of today.
     pub(crate) updates: bool,
     /// Where a report in the form of JUnit is written.
     pub(crate) junit: Option<&'a str>,
@@ -159,7 +159,7 @@ where
 }
 
 /// Tests one spec after another and accepts its classes. It is told before the next is begun, so that whatever is written is told, and no two write
-/// one accepted text at a time.
+/// one accepted record at a time.
 fn update_each<'a, F: Folder, W: Write>(
     alloc: Global,
     specs: &[String],

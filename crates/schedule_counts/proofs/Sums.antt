@@ -232,6 +232,12 @@ module _ (kind : Kind) (run : Spec) (start : World) (sessions : run.sessions ≤
       some = λ ks h.
           (let x = is.some ks h in
           (x.0.shows, in-orders (with_number x.0.shows all) x.0 ks (in-with all x.0 x.1) x.2));
+      one = λ ks n m h k.
+          (let x = orders-in (with_number n all) ks h in
+          let y = orders-in (with_number m all) ks k in
+          let f = with-in n all x.0 x.1 in
+          let g = with-in m all y.0 y.1 in
+          sym f.1 ∙ ap (λ (s : FinalState). s.shows) (is.one ks x.0 y.0 f.0 g.0 x.2 y.2) ∙ g.1);
       below = λ n ks rank h r.
           (let x = orders-in (with_number n all) ks h in
           let f = with-in n all x.0 x.1 in

@@ -26,12 +26,13 @@ pub record AreOrdersWith (kind : Kind) (tables : List Table) (run : Spec) (start
   pub long : length orders ≡ count
   pub each : (ks : List ℕ) → Has ks orders → IsOrder kind run.steps (queues_of run) start ks × (slice_get shown number ≡ Some (shows_in tables run.sessions (send_all run.steps start ks)))
 
--- each order of the spec is among those of a number, as many as the counts with it sum up to, and the least first rank with it is the least of theirs; and all
+-- each order of the spec is among those of one number, as many as the counts with it sum up to, and the least first rank with it is the least of theirs; and all
 -- counts have a sum below 2^63
 pub record AreClasses (kind : Kind) (tables : List Table) (run : Spec) (start : World) (shown : List Shows) (states : List FinalState) : Type 0 where
   pub orders : ℕ → List (List ℕ)
   pub class : (number : ℕ) → AreOrdersWith kind tables run start shown number (count_of number states) (orders number)
   pub some : (ks : List ℕ) → IsOrder kind run.steps (queues_of run) start ks → (number : ℕ) × Has ks (orders number)
+  pub one : (ks : List ℕ) (number other : ℕ) → Has ks (orders number) → Has ks (orders other) → number ≡ other
   pub below : (number : ℕ) (ks : List ℕ) (rank : ℕ) → Has ks (orders number) → IsRank (queues_of run) ks rank → (f : FinalState) × Has f states × (f.shows ≡ number) × (f.first ≤ rank)
   pub met : (f : FinalState) → Has f states → (ks : List ℕ) × Has ks (orders f.shows) × IsRank (queues_of run) ks f.first
   pub few : total_count states < 2 ^ 63

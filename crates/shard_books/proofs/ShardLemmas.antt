@@ -11,7 +11,7 @@ use Rattle.rank_facts.specs.declared.fact.Fact.{Fact}
 use Rattle.rank_facts.specs.declared.fact.Fact.TheVariants.{Ran}
 use Rattle.rank_facts.proofs.TrueFacts.{facts-one}
 use Rattle.step_reducer.specs.Walks.{AllHave}
-use Rattle.step_reducer.specs.Shardwise.{Shardwise, IsPart, GivesPart, world_behind}
+use Rattle.step_reducer.specs.Shardwise.{Shardwise, IsPart, GivesPart}
 use Rattle.step_reducer.specs.declared.fact.FactRun.{FactRun}
 use Rattle.step_reducer.specs.declared.said.Said.{Said}
 use Rattle.step_reducer.specs.declared.said.Said.TheVariants as said
@@ -153,19 +153,17 @@ begun x b whole none next nothing = record {
 
 -- one more run
 pub gathered-more : (x y z : Shardwise) (run : FactRun) (b : Building) → IsReady x.file → IsBound x.file.run → IsGathering x y b → IsPart y run
-    → z.spent ≡ false → z ≡ record y { at = run.end; behind = world_behind y.file.run run; told = z.told; level = false } → FactFits run.fact
+    → z.spent ≡ false → z ≡ record y { at = run.end; told = z.told } → FactFits run.fact
     → IsPrefix y.told z.told → (known : List (ℕ × Told)) → AreTold z.told known → IsGathering x z (record (added b run.first run.end run.fact) { known = known })
 gathered-more x y z run b ready bound g r whole moved fits front known told =
     let at : z.at ≡ run.end = ap (λ (w : Shardwise). w.at) moved in
-    let behind : z.behind ≡ world_behind y.file.run run = ap (λ (w : Shardwise). w.behind) moved in
-    let level : z.level ≡ false = ap (λ (w : Shardwise). w.level) moved in
     let some = r.some in
     let first = r.first in
     let from = g.from in
     let all : AllHave x.reduce x.file.run run.first run.end run.fact =
     subst (λ (w : Shardwise). AllHave w.reduce w.file.run run.first run.end run.fact) g.same r.facts in
     record {
-      same = moved ∙ (λ k. (let w : Shardwise = g.same k in record w { at = sym at k; behind = sym behind k; told = z.told; level = sym level k }));
+      same = moved ∙ (λ k. (let w : Shardwise = g.same k in record w { at = sym at k; told = z.told }));
       whole = whole;
       from = omega (arith, at, some, first, from);
       next = omega (arith, at, some);

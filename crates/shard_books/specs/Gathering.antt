@@ -13,7 +13,7 @@ AreTold told known = (n : ℕ) (outcome : Told) → IsKnown known n outcome → 
 
 -- the facts of the ranks that the walk has passed since it stood there are gathered
 pub record IsGathering (begun walk : Shardwise) (b : Building) : Type 0 where
-  pub same : walk ≡ record begun { at = walk.at; behind = walk.behind; told = walk.told; level = walk.level }
+  pub same : walk ≡ record begun { at = walk.at; told = walk.told }
   pub whole : walk.spent ≡ false
   pub from : begun.at ≤ walk.at
   pub next : b.next ≤ walk.at

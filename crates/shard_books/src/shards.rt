@@ -38,7 +38,7 @@ pub fn of_walk(alloc: Global, spec: &Spec, walk: &mut ShardWalk<'_>) -> Result<B
     requires of_spec { walk.old.file ≡ spec.now }
     ensures of_spec { IfOk result (λ book. book.file ≡ spec.now) }
     ensures facts { IfOk result (λ book. AreFactsOf walk.old.reduce spec.now.run walk.old.at walk.old.end book.facts) }
-    ensures behind { OnOk result (walk.new ≡ record walk.old { at = walk.old.end; behind = walk.new.behind; told = walk.new.told; level = walk.new.level }) }
+    ensures behind { OnOk result (walk.new ≡ record walk.old { at = walk.old.end; told = walk.new.told }) }
     ensures front { OnOk result (IsPrefix walk.old.told walk.new.told) }
 {
     spec.ready();
@@ -54,7 +54,7 @@ fn facts_before(alloc: Global, walk: &mut ShardWalk<'_>) -> Result<Builder, Allo
     requires ready { IsReady walk.old.file }
     ensures facts { IfOk result (λ builder. AreFactsOf walk.old.reduce walk.old.file.run walk.old.at walk.old.end builder.facts) }
     ensures recordable { IfOk result (λ builder. AllRecordable walk.old.file.run builder.facts) }
-    ensures behind { OnOk result (walk.new ≡ record walk.old { at = walk.old.end; behind = walk.new.behind; told = walk.new.told; level = walk.new.level }) }
+    ensures behind { OnOk result (walk.new ≡ record walk.old { at = walk.old.end; told = walk.new.told }) }
     ensures front { OnOk result (IsPrefix walk.old.told walk.new.told) }
 {
     let mut builder = Builder::new(alloc);
@@ -72,7 +72,7 @@ fn gather(walk: &mut ShardWalk<'_>, builder: &mut Builder) -> Result<(), AllocEr
     requires nothing { builder.old.known ≡ [] }
     ensures facts { OnOk result (AreFactsOf walk.old.reduce walk.old.file.run walk.old.at walk.old.end builder.new.facts) }
     ensures recordable { OnOk result (AllRecordable walk.old.file.run builder.new.facts) }
-    ensures behind { OnOk result (walk.new ≡ record walk.old { at = walk.old.end; behind = walk.new.behind; told = walk.new.told; level = walk.new.level }) }
+    ensures behind { OnOk result (walk.new ≡ record walk.old { at = walk.old.end; told = walk.new.told }) }
     ensures front { OnOk result (IsPrefix walk.old.told walk.new.told) }
 {
     'runs: loop {

@@ -146,6 +146,7 @@ deadlock = record {
   statements =
       codes "UPDATE t SET v = v + 1 WHERE id = 1;" ∷ codes "UPDATE t SET v = v + 1 WHERE id = 2;" ∷ codes "COMMIT;"
       ∷ codes "UPDATE t SET v = v * 2 WHERE id = 2;" ∷ codes "UPDATE t SET v = v * 2 WHERE id = 1;" ∷ codes "COMMIT; SELECT * FROM t;" ∷ [];
+  level_lines = 8 ∷ 14 ∷ [];
   shown = record {
     begun = record { status = InBlock; locks = [] } ∷ record { status = InBlock; locks = [] } ∷ [];
     first = [];
@@ -171,6 +172,7 @@ line text = text ++ codes "\n"
 
 deadlock_page : page_bytes deadlock ≡ flat_map line (
     codes "deadlock.spec: rank 4 of 20"
+    ∷ codes "locking: strict two-phase locking; isolation levels (lines 8, 14) have no effect"
     ∷ codes "a1 b1 a2: a3- b2! b3:"
     ∷ codes ""
     ∷ codes "      a                                     b"

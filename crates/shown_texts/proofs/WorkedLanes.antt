@@ -92,6 +92,7 @@ bank = record {
       ∷ codes "SELECT balance FROM account WHERE id = 3;"
       ∷ codes "SELECT sum(balance) FROM account; COMMIT;"
       ∷ codes "UPDATE account SET balance = balance - 1;" ∷ [];
+  level_lines = [];
   shown = record {
     begun = begun InBlock ∷ begun InBlock ∷ begun InBlock ∷ begun Outside ∷ [];
     first = [];

@@ -4,5 +4,6 @@ pub mod Breaking
 pub mod Words
 pub mod Lanes
 pub mod Orders
+pub mod Levels
 pub mod Pages
 pub mod Laws

@@ -14,6 +14,7 @@ use Rattle.line_moments.specs.declared.shown.Standing.TheVariants.{HasEnded, IsO
 use Rattle.shown_texts.specs.Characters.{padded, shown_text, trimmed}
 use Rattle.shown_texts.specs.Names.{cut, shortened}
 use Rattle.shown_texts.specs.Breaking.{broken}
+use Rattle.shown_texts.specs.Levels.{level_text}
 use Rattle.shown_texts.specs.Words.{reason_text, want_text}
 use Rattle.shown_texts.specs.Lanes.{cell, width, row_text, rows}
 use Rattle.shown_texts.specs.Orders.{comes_in, order_text, widest_from}
@@ -22,7 +23,7 @@ use Rattle.shown_texts.specs.declared.lane.Cell.{Cell}
 use Rattle.shown_texts.specs.declared.lane.LaneRow.{LaneRow}
 
 -- what a page is made of: the path of the spec, the rank and the number of orders; the names of sessions and of steps, and the statements of each step on one
--- line; and what is shown of the line
+-- line; the lines of the file with a level that has no effect; and what is shown of the line
 pub record Page : Type 0 where
   pub path : List ℕ
   pub rank : ℕ
@@ -30,6 +31,7 @@ pub record Page : Type 0 where
   pub sessions : List (List ℕ)
   pub steps : List (List ℕ)
   pub statements : List (List ℕ)
+  pub level_lines : List ℕ
   pub shown : Shown
 
 -- ---- how wide its parts are
@@ -105,9 +107,13 @@ rank_text rank orders = codes ": rank " ++ (decimal rank ++ (codes " of " ++ dec
 abbrev pub title : Frame → Page → List ℕ
 title f p = shown_text p.path ++ (rank_text p.rank p.orders ++ wide_text (full_width f))
 
+-- that levels have no effect, where there are any
+abbrev pub level_lines : Page → List (List ℕ)
+level_lines p = flat_map plain_lines (level_text p.level_lines)
+
 -- the title, and the order beneath it
 abbrev pub top_lines : Frame → Page → List (List ℕ)
-top_lines f p = plain_lines (title f p) ++ plain_lines (order_text p.steps p.shown.moments)
+top_lines f p = plain_lines (title f p) ++ (level_lines p ++ plain_lines (order_text p.steps p.shown.moments))
 
 -- a reason behind others
 abbrev pub further_reason : List (List ℕ) → Edge → List ℕ

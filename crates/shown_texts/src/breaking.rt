@@ -10,7 +10,7 @@ use sqlite_items::Items;
 use std::alloc::{AllocError, Global};
 
 /// The columns of the page, unless lanes are too narrow in so many.
-pub const COLUMNS: usize = 80;
+pub(crate) const COLUMNS: usize = 80;
 
 pub(crate) fn plain_lines(alloc: Global, text: &[char]) -> Result<Items<Items<char>>, AllocError>
     ensures { IfOk result (λ lines. lines ≡ plain_lines text.now) }
@@ -19,7 +19,7 @@ pub(crate) fn plain_lines(alloc: Global, text: &[char]) -> Result<Items<Items<ch
 }
 
 /// The text in lines of 80, with two blanks in front of each further one. It fails for want of memory alone.
-pub fn hanging_lines(alloc: Global, text: &[char]) -> Result<Items<Items<char>>, AllocError>
+pub(crate) fn hanging_lines(alloc: Global, text: &[char]) -> Result<Items<Items<char>>, AllocError>
     ensures { IfOk result (λ lines. lines ≡ hanging_lines text.now) }
 {
     broken(alloc, COLUMNS, 0, 2, text)
@@ -27,7 +27,7 @@ pub fn hanging_lines(alloc: Global, text: &[char]) -> Result<Items<Items<char>>,
 
 /// The text in lines of a width: so many blanks stand in front of the first line, and a margin in front of each further one. It fails for
 /// want of memory alone.
-pub fn broken(
+pub(crate) fn broken(
     alloc: Global,
     width: usize,
     front: usize,
@@ -143,7 +143,7 @@ fn longer(alloc: Global, line: &[char], piece: &[char]) -> Result<Items<char>, A
 }
 
 /// A piece behind so many blanks. It fails for want of memory alone.
-pub fn begun(alloc: Global, margin: usize, piece: &[char]) -> Result<Items<char>, AllocError>
+fn begun(alloc: Global, margin: usize, piece: &[char]) -> Result<Items<char>, AllocError>
     ensures { IfOk result (λ line. line ≡ blanks margin ++ piece.now) }
 {
     let mut line = Items::new(alloc);

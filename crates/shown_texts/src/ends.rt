@@ -164,7 +164,7 @@ fn put_word(alloc: Global, lines: &mut Items<Items<char>>, word: &str) -> Result
 }
 
 /// Puts a table by its name, and the rows that are left in it, behind other lines. It fails for want of memory alone.
-pub fn put_left_in(
+fn put_left_in(
     alloc: Global,
     lines: &mut Items<Items<char>>,
     name: &str,
@@ -222,7 +222,7 @@ fn standing_text(standing: &Standing) -> &'static str
 }
 
 /// Puts how a session stands behind other lines, if there is something to say. It fails for want of memory alone.
-pub fn put_standing(
+fn put_standing(
     alloc: Global,
     lines: &mut Items<Items<char>>,
     name: &[char],

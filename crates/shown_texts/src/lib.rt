@@ -9,6 +9,7 @@ mod lane;
 mod lanes;
 mod laws;
 mod legend;
+mod levels;
 mod names;
 mod notes;
 mod orders;
@@ -17,15 +18,15 @@ mod pages;
 mod told;
 mod words;
 
-pub use breaking::{COLUMNS, begun, broken, hanging_lines};
 pub use characters::{put, put_blanks, put_line, put_number, put_shown};
-pub use ends::{put_left_in, put_standing, values_line};
+pub use ends::values_line;
 pub use laws::{
     broken_lines_fit, broken_texts_are_whole, shortened_names_differ, small_pages_are_narrow,
 };
+pub use levels::level_text;
 pub use names::put_cut;
 pub use notes::words_of;
 pub use orders::{put_if, put_name};
 pub use page::Page;
-pub use pages::{push_lines, put_part, show_text};
+pub use pages::{push_line, push_lines, put_part, show_text};
 pub use told::{push_event, step_name};

@@ -18,6 +18,8 @@ pub struct Page<'a> {
     pub steps: &'a [Text],
     /// The statements of each step, on one line.
     pub statements: &'a [Text],
+    /// The lines of the file with an isolation level that has no effect.
+    pub level_lines: &'a [usize],
     /// What is shown of the order.
     pub shown: &'a Shown,
 }
@@ -38,6 +40,7 @@ impl<'a> Model for Page<'a> {
       sessions = p.sessions.now;
       steps = p.steps.now;
       statements = p.statements.now;
+      level_lines = p.level_lines.now;
       shown = p.shown.now;
     } };
 }

@@ -12,6 +12,7 @@ use crate::frame::{Frame, frame_of};
 use crate::lane::{Cell, LaneRow};
 use crate::lanes::{row_line, rows};
 use crate::legend::{key_lines, legend};
+use crate::levels::level_text;
 use crate::names::shortened;
 use crate::notes::{put_cells, width};
 use crate::orders::put_order;
@@ -60,7 +61,8 @@ pub fn push_lines(text: &mut String, lines: &[Items<char>]) -> Result<(), AllocE
     Ok(())
 }
 
-fn push_line(text: &mut String, line: &[char]) -> Result<(), AllocError>
+/// Puts a line behind a text, without the blanks at its end and with a line feed behind it. It fails for want of memory alone.
+pub fn push_line(text: &mut String, line: &[char]) -> Result<(), AllocError>
     ensures { OnOk result (string_bytes text.new ≡ string_bytes text.old ++ spec.line_bytes line.now) }
 {
     push_characters(text, &line[..trimmed_len(line)])?;
@@ -165,8 +167,34 @@ fn top_lines(
 {
     let title = title(alloc, frame, page)?;
     let mut lines = plain_lines(alloc, title.as_slice())?;
+    put_levels(alloc, &mut lines, page)?;
     put_order_lines(alloc, &mut lines, page)?;
     Ok(lines)
+}
+
+/// Puts that levels have no effect behind other lines, where there are any.
+fn put_levels(
+    alloc: Global,
+    lines: &mut Items<Items<char>>,
+    page: &Page<'_>,
+) -> Result<(), AllocError>
+    ensures { OnOk result (lines.new ≡ lines.old ++ spec.level_lines page.now) }
+{
+    let texts = level_text(alloc, page.level_lines)?;
+    put_plain(alloc, lines, texts.as_slice())
+}
+
+fn put_plain(
+    alloc: Global,
+    lines: &mut Items<Items<char>>,
+    texts: &[Items<char>],
+) -> Result<(), AllocError>
+    ensures { OnOk result (lines.new ≡ lines.old ++ flat_map spec.plain_lines texts.now) }
+{
+    for text in texts {
+        lines.append(plain_lines(alloc, text.as_slice())?)?;
+    }
+    Ok(())
 }
 
 fn put_order_lines(

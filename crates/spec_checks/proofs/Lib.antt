@@ -1,3 +1,1 @@
 mod CheckLemmas
-mod IdleLemmas
-mod NumberLemmas

@@ -1,12 +1,12 @@
 -- What is read of a spec file and has no effect, by the lines that it begins on.
-use Rattle.std.specs.Prelude.{◌≡◌, ℕ, ◌==◌, List, [], ◌∷◌, ◌++◌, codes, decimal, Option, Some, None, if◌then◌else◌}
+use Rattle.std.specs.Prelude.{◌≡◌, ℕ, List, [], ◌∷◌, ◌++◌, codes, decimal, Option, Some, None}
 use Rattle.std.specs.List.{flat_map}
 use Rattle.spec_reader.specs.Text.{IsSpec}
 use Rattle.spec_reader.specs.Tree.{BlockTree, SessionTree, SpecTree}
-use Rattle.fault_texts.specs.Places.{place}
 use Rattle.file_blocks.specs.Blocks.{sent_blocks}
-use Rattle.spec_checks.specs.declared.statements.IdleSql.TheVariants.{Level, Setting, NotNull}
-use Rattle.spec_checks.specs.Statements.{idle_statements}
+use Rattle.spec_texts.specs.declared.statements.IdleSql.TheVariants.{Level, Setting, NotNull}
+use Rattle.spec_texts.specs.Levels.{lines_from}
+use Rattle.spec_texts.specs.Statements.{idle_statements}
 
 -- where a teardown's block begins, if there is one
 abbrev pub place_of : Option BlockTree → List ℕ
@@ -19,19 +19,14 @@ session_teardowns s = place_of s.head.teardown ++ place_of s.teardown
 abbrev pub teardowns : SpecTree → List ℕ
 teardowns tree = place_of tree.front.teardown ++ flat_map session_teardowns tree.sessions
 
--- the number of a line, behind that of the last one that was told
-abbrev pub number : ℕ → ℕ → List ℕ
-number last line = if line == last then [] else codes " " ++ decimal line
-
--- the numbers of the lines of some places, each once where it stands beside itself
-abbrev pub numbers : List ℕ → ℕ → List ℕ → List ℕ
-numbers text last [] = []
-numbers text last (n ∷ ns) = number last (place text n).line ++ numbers text (place text n).line ns
+-- the number of a line, behind a blank
+abbrev pub number : ℕ → List ℕ
+number line = codes " " ++ decimal line
 
 -- what is told of the parts of a kind: nothing where there is none
 abbrev pub idle_line : List ℕ → List ℕ → List ℕ → List ℕ
 idle_line text words [] = []
-idle_line text words (n ∷ ns) = codes "no effect: " ++ (words ++ (codes ", lines" ++ (numbers text 0 (n ∷ ns) ++ codes "\n")))
+idle_line text words (n ∷ ns) = codes "no effect: " ++ (words ++ (codes ", lines" ++ (flat_map number (lines_from text 0 (n ∷ ns)) ++ codes "\n")))
 
 -- what is told of the file of this tree, the markers of whose lines are there
 abbrev pub idle_lines : List ℕ → SpecTree → List ℕ → List ℕ

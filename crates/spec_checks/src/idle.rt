@@ -4,14 +4,14 @@ ghost use Rattle.std.specs.Prelude.{◌≡◌, ◌++◌, [], ℕ, List, codes, m
 ghost use Rattle.spec_reader.specs.Whole.{spec_tree};
 ghost use Rattle.file_blocks.specs.Blocks.{sent_tree};
 ghost use Rattle.spec_checks.specs.Idle.{idle_line, idle_lines, teardowns};
-ghost use Rattle.spec_checks.specs.Statements.{idle_statements};
+ghost use Rattle.spec_texts.specs.Statements.{idle_statements};
 
 use crate::markers::markers;
-use crate::statements::{IdleSql, idle_statements};
 use crate::teardowns::teardowns;
 use crate::telling::push_line;
 use file_blocks::{SentBlock, sent_blocks};
 use spec_reader::SpecText;
+use spec_texts::{IdleSql, idle_statements};
 use std::alloc::{AllocError, Global};
 
 /// What is told of the parts of a file that have no effect, a line for each kind that it has.

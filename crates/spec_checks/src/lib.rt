@@ -4,7 +4,6 @@
 mod checking;
 mod idle;
 mod markers;
-mod statements;
 mod teardowns;
 mod telling;
 

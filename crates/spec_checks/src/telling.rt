@@ -1,9 +1,10 @@
 //! The lines that tell of parts without effect.
 
-ghost use Rattle.std.specs.Prelude.{◌≡◌, ◌++◌, IfOk, OnOk, codes, string_bytes};
-ghost use Rattle.spec_checks.specs.Idle.{idle_line, number, numbers};
+ghost use Rattle.std.specs.Prelude.{◌≡◌, ◌++◌, OnOk, codes, flat_map, string_bytes};
+ghost use Rattle.spec_texts.specs.Levels.{lines_from};
+ghost use Rattle.spec_checks.specs.Idle.{idle_line, number};
 
-use fault_texts::place_of;
+use spec_texts::lines_at;
 use std::alloc::{AllocError, Global};
 
 /// Puts a line behind a text that tells the lines on which parts of a kind begin, if there are some.
@@ -29,7 +30,7 @@ fn push_whole_line(
     places: &[usize],
     told: &mut String,
 ) -> Result<(), AllocError>
-    ensures { OnOk result (string_bytes told.new ≡ string_bytes told.old ++ (codes "no effect: " ++ (words.now ++ (codes ", lines" ++ (numbers text.now 0 places.now ++ codes "\n"))))) }
+    ensures { OnOk result (string_bytes told.new ≡ string_bytes told.old ++ (codes "no effect: " ++ (words.now ++ (codes ", lines" ++ (flat_map number (lines_from text.now 0 places.now) ++ codes "\n"))))) }
 {
     told.push_str("no effect: ")?;
     told.push_str(words)?;
@@ -44,24 +45,25 @@ fn push_numbers(
     places: &[usize],
     told: &mut String,
 ) -> Result<(), AllocError>
-    ensures { OnOk result (string_bytes told.new ≡ string_bytes told.old ++ numbers text.now 0 places.now) }
+    ensures { OnOk result (string_bytes told.new ≡ string_bytes told.old ++ flat_map number (lines_from text.now 0 places.now)) }
 {
-    let mut last = 0;
-    for place in places {
-        let line = place_of(text, *place).line;
-        push_number(alloc, last, line, told)?;
-        last = line;
+    let lines = lines_at(alloc, text, places)?;
+    push_all(alloc, &lines, told)
+}
+
+fn push_all(alloc: Global, lines: &[usize], told: &mut String) -> Result<(), AllocError>
+    ensures { OnOk result (string_bytes told.new ≡ string_bytes told.old ++ flat_map number lines.now) }
+{
+    for line in lines {
+        push_number(alloc, *line, told)?;
     }
     Ok(())
 }
 
-/// Puts the number of a line behind a text, unless it is the one that was put last.
-fn push_number(alloc: Global, last: usize, line: usize, told: &mut String) -> Result<(), AllocError>
-    ensures { OnOk result (string_bytes told.new ≡ string_bytes told.old ++ number last line) }
+/// Puts the number of a line behind a text.
+fn push_number(alloc: Global, line: usize, told: &mut String) -> Result<(), AllocError>
+    ensures { OnOk result (string_bytes told.new ≡ string_bytes told.old ++ number line) }
 {
-    if line == last {
-        return Ok(());
-    }
     let number = format!(in alloc; " {line}")?;
     told.push_str(&number)
 }

@@ -1,12 +1,12 @@
 -- Classes by tallies are the classes of all orders.
-use Rattle.std.proofs.Common.{◌≡◌, refl, sym, ap, ◌∙◌, subst, ℕ, zero, suc, ◌+◌, ◌<◌, ◌≤◌, ◌==◌, ◌⊎◌, inl, inr, Bool, true, false, cond, nat_lt, Some, List, [], ◌∷◌, ◌++◌, length, get_or, take, slice_get, sum_by, All, arith, eqb-true, eq-eqb}
+use Rattle.std.proofs.Common.{◌≡◌, refl, sym, ap, ◌∙◌, subst, ℕ, zero, suc, ◌+◌, ◌<◌, ◌≤◌, ◌==◌, ◌⊎◌, inl, inr, Bool, true, false, cond, nat_lt, Some, List, [], ◌∷◌, ◌++◌, length, map, get_or, take, slice_get, sum_by, All, arith, eqb-true, eq-eqb}
 use Rattle.std.specs.List.{filter}
 use Rattle.std.specs.List.Sorted.{IsNonDecreasingBy}
 use Rattle.std.proofs.lemmas.Bool.{cases_eq, cases_lt, ltb-true, ltb-false}
 use Rattle.std.proofs.lemmas.List.Elements.{All-nil, All-cons, All-head, All-tail}
 use Rattle.std.proofs.lemmas.List.Sums.{sum_by-cons}
 use Rattle.std.proofs.lemmas.List.Sorted.{All-permutation, IsPermutation-sym, sum_by-IsPermutation}
-use Rattle.path_counts.specs.Paths.{Has}
+use Rattle.lock_queues.specs.Reasons.{Among}
 use Rattle.binding_model.specs.declared.tables.Table.{Table}
 use Rattle.bound_specs.specs.Spec.{Spec}
 use Rattle.spec_schedules.specs.declared.kind.Kind.{Kind}
@@ -14,13 +14,14 @@ use Rattle.spec_schedules.specs.Ranked.{IsOrderAt}
 use Rattle.spec_schedules.specs.Laws.{OrdersAreAlone}
 use Rattle.order_classes.specs.declared.shows.Shows.{Shows}
 use Rattle.order_classes.specs.Shows.{shows_of_line}
-use Rattle.order_classes.specs.Numbers.{IsNumberOf}
+use Rattle.order_classes.specs.Numbers.{IsNumberOf, RiseFrom}
 use Rattle.different_shows.specs.Different.{AreDifferent}
+use Rattle.different_shows.proofs.Places.{among-at, at-among}
 use Rattle.schedule_counts.specs.declared.counting.FinalState.{FinalState}
 use Rattle.spec_classes.specs.declared.tallies.Tally.{Tally}
 use Rattle.spec_classes.specs.declared.classes.OrderClass.{OrderClass}
 use Rattle.spec_classes.specs.Classes as classes
-use Rattle.spec_classes.specs.Classes.{ShowsAt, IsClassOf, AreClassesOf, AllBehind, FirstsRise}
+use Rattle.spec_classes.specs.Classes.{ShowsAt, IsClassOf, AreClassesOf}
 use Rattle.spec_classes.specs.Told.{AreTold}
 use Rattle.spec_classes.specs.Tallies.{IsTallyOf, AreTallies, IsToldBy, AreToldBy, is_counted, AreInTurn, IsFound, AreTellable, AreClassesBy}
 use Rattle.spec_classes.proofs.Tallied.{count-some, take-next}
@@ -37,44 +38,34 @@ get-there [] n lt = absurd (omega arith)
 get-there (y ∷ xs) zero lt = (y, refl)
 get-there (y ∷ xs) (suc n) lt = get-there xs n (omega arith)
 
-place-of : (ts : List Tally) (t : Tally) → Has t ts → (n : ℕ) × (slice_get ts n ≡ Some t)
-place-of [] t has = absurd has
-place-of (u ∷ ts) t (inl e) = (0, ap Some (sym e))
-place-of (u ∷ ts) t (inr has) = (let rec = place-of ts t has in (suc rec.0, rec.1))
-
-get-has : (ts : List Tally) (n : ℕ) (t : Tally) → slice_get ts n ≡ Some t → Has t ts
-get-has [] n t e = absurd (cc)
-get-has (u ∷ ts) zero t e = inl (let f : Some u ≡ Some t = e in let g : u ≡ t = cc in sym g)
-get-has (u ∷ ts) (suc n) t e = inr (get-has ts n t e)
-
 pub same-some : {T : Type 0} (x y : T) → Some x ≡ Some y → x ≡ y
 same-some x y e = cc
 
-all-at : (P : Tally → Type 0) (ts : List Tally) → All P ts → (t : Tally) → Has t ts → P t
+all-at : (P : Tally → Type 0) (ts : List Tally) → All P ts → (t : Tally) → Among t ts → P t
 all-at P [] h t has = absurd has
 all-at P (u ∷ ts) h t (inl e) = subst P (sym e) (All-head P u ts h)
 all-at P (u ∷ ts) h t (inr has) = all-at P ts (All-tail P u ts h) t has
 
-all-in : (P : Tally → Type 0) (ts : List Tally) → ((t : Tally) → Has t ts → P t) → All P ts
+all-in : (P : Tally → Type 0) (ts : List Tally) → ((t : Tally) → Among t ts → P t) → All P ts
 all-in P [] h = All-nil P
 all-in P (u ∷ ts) h = All-cons P u ts (h u (inl refl)) (all-in P ts (λ t has. h t (inr has)))
 
 -- ---- tallies that count something
 
-counted-in : (ts : List Tally) (t : Tally) → Has t (filter is_counted ts) → Has t ts × (0 < t.count)
+counted-in : (ts : List Tally) (t : Tally) → Among t (filter is_counted ts) → Among t ts × (0 < t.count)
 counted-in [] t has = absurd has
 counted-in (u ∷ ts) t has = at (nat_lt 0 u.count) refl has (λ m. counted-in ts t m)
   where
-    at : (b : Bool) → nat_lt 0 u.count ≡ b → Has t (cond b (u ∷ filter is_counted ts) (filter is_counted ts)) → (Has t (filter is_counted ts) → Has t ts × (0 < t.count)) → Has t (u ∷ ts) × (0 < t.count)
+    at : (b : Bool) → nat_lt 0 u.count ≡ b → Among t (cond b (u ∷ filter is_counted ts) (filter is_counted ts)) → (Among t (filter is_counted ts) → Among t ts × (0 < t.count)) → Among t (u ∷ ts) × (0 < t.count)
     at true e (inl is) rec = (inl is, (let lt = ltb-true 0 u.count e in let same = ap (λ (x : Tally). x.count) is in omega arith))
     at true e (inr m) rec = (let r = rec m in (inr r.0, r.1))
     at false e m rec = (let r = rec m in (inr r.0, r.1))
 
-in-counted : (ts : List Tally) (t : Tally) → Has t ts → 0 < t.count → Has t (filter is_counted ts)
+in-counted : (ts : List Tally) (t : Tally) → Among t ts → 0 < t.count → Among t (filter is_counted ts)
 in-counted [] t has lt = absurd has
 in-counted (u ∷ ts) t has lt = at (nat_lt 0 u.count) refl has (λ m. in-counted ts t m lt)
   where
-    at : (b : Bool) → nat_lt 0 u.count ≡ b → Has t (u ∷ ts) → (Has t ts → Has t (filter is_counted ts)) → Has t (cond b (u ∷ filter is_counted ts) (filter is_counted ts))
+    at : (b : Bool) → nat_lt 0 u.count ≡ b → Among t (u ∷ ts) → (Among t ts → Among t (filter is_counted ts)) → Among t (cond b (u ∷ filter is_counted ts) (filter is_counted ts))
     at true e (inl is) rec = inl is
     at true e (inr m) rec = inr (rec m)
     at false e (inl is) rec = absurd (let le = ltb-false 0 u.count e in let same = ap (λ (x : Tally). x.count) is in omega arith)
@@ -133,7 +124,7 @@ fewer n (u ∷ ts) = at (nat_lt 0 u.count) (fewer n ts)
         omega arith
     at false rec = (let b = sum_by-cons (one_at n) u ts in omega arith)
 
-has-one : (n : ℕ) (ts : List Tally) (t : Tally) → Has t ts → t.number ≡ n → 1 ≤ sum_by (one_at n) ts
+has-one : (n : ℕ) (ts : List Tally) (t : Tally) → Among t ts → t.number ≡ n → 1 ≤ sum_by (one_at n) ts
 has-one n [] t has e = absurd has
 has-one n (u ∷ ts) t (inl is) e =
     let one = one-same n u (sym (ap (λ (x : Tally). x.number) is) ∙ e) in
@@ -146,23 +137,11 @@ has-one n (u ∷ ts) t (inr has) e =
 
 -- ---- in turn
 
-abbrev IsBefore : ℕ → List Tally → Type 0
-IsBefore first [] = Unit {0}
-IsBefore first (t ∷ ts) = (first < t.first) × IsBefore first ts
-
-abbrev AreRising : List Tally → Type 0
-AreRising [] = Unit {0}
-AreRising (t ∷ ts) = IsBefore t.first ts × AreRising ts
-
 sorted-tail : (t : Tally) (ts : List Tally) → IsNonDecreasingBy (λ (x : Tally). x.first) (t ∷ ts) → IsNonDecreasingBy (λ (x : Tally). x.first) ts
 sorted-tail t ts h i j d le lt = h (suc i) (suc j) d (omega arith) (omega arith)
 
-head-first : (t : Tally) (ts : List Tally) → IsNonDecreasingBy (λ (x : Tally). x.first) (t ∷ ts) → (u : Tally) → Has u ts → t.first ≤ u.first
+head-first : (t : Tally) (ts : List Tally) → IsNonDecreasingBy (λ (x : Tally). x.first) (t ∷ ts) → (u : Tally) → Among u ts → t.first ≤ u.first
 head-first t ts h u has = all-at (λ x. t.first ≤ x.first) ts (λ k d lt. h 0 (suc k) d (omega arith) (omega arith)) u has
-
-before-all : (first : ℕ) (ts : List Tally) → ((u : Tally) → Has u ts → first < u.first) → IsBefore first ts
-before-all first [] h = tt
-before-all first (t ∷ ts) h = (h t (inl refl), before-all first ts (λ u has. h u (inr has)))
 
 module _ (kind : Kind) (tables : List Table) (run : Spec) (shown : List Shows) (alone : OrdersAreAlone) where
   pub one-shown : (rank : ℕ) (s t : Shows) → ShowsAt kind tables run rank s → ShowsAt kind tables run rank t → s ≡ t
@@ -172,13 +151,13 @@ module _ (kind : Kind) (tables : List Table) (run : Spec) (shown : List Shows) (
 
   -- ---- tallies that stand for classes
 
-  class-of : (ts : List Tally) (cs : List OrderClass) → AreToldBy kind run shown ts cs → (t : Tally) → Has t ts → (c : OrderClass) × Has c cs × IsToldBy kind run shown t c
+  class-of : (ts : List Tally) (cs : List OrderClass) → AreToldBy kind run shown ts cs → (t : Tally) → Among t ts → (c : OrderClass) × Among c cs × IsToldBy kind run shown t c
   class-of [] cs by t has = absurd has
   class-of (u ∷ ts) [] by t has = absurd by
   class-of (u ∷ ts) (c ∷ cs) by t (inl e) = (c, inl refl, subst (λ x. IsToldBy kind run shown x c) (sym e) by.0)
   class-of (u ∷ ts) (c ∷ cs) by t (inr has) = (let rec = class-of ts cs by.1 t has in (rec.0, inr rec.1, rec.2))
 
-  tally-of : (ts : List Tally) (cs : List OrderClass) → AreToldBy kind run shown ts cs → (c : OrderClass) → Has c cs → (t : Tally) × Has t ts × IsToldBy kind run shown t c
+  tally-of : (ts : List Tally) (cs : List OrderClass) → AreToldBy kind run shown ts cs → (c : OrderClass) → Among c cs → (t : Tally) × Among t ts × IsToldBy kind run shown t c
   tally-of [] [] by c has = absurd has
   tally-of [] (d ∷ cs) by c has = absurd by
   tally-of (u ∷ ts) [] by c has = absurd by
@@ -191,17 +170,11 @@ module _ (kind : Kind) (tables : List Table) (run : Spec) (shown : List Shows) (
   total-told (t ∷ ts) [] by = absurd by
   total-told (t ∷ ts) (c ∷ cs) by = (let rec = total-told ts cs by.1 in let own = by.0.count in let sum = sum_by-cons (λ (x : Tally). x.count) t ts in omega arith)
 
-  behind-told : (t : Tally) (c : OrderClass) → c.first ≡ t.first → (ts : List Tally) (cs : List OrderClass) → AreToldBy kind run shown ts cs → IsBefore t.first ts → AllBehind c.first cs
-  behind-told t c e [] [] by rise = tt
-  behind-told t c e [] (d ∷ cs) by rise = absurd by
-  behind-told t c e (u ∷ ts) [] by rise = absurd by
-  behind-told t c e (u ∷ ts) (d ∷ cs) by rise = ((let own = by.0.first in let lt = rise.0 in omega arith), behind-told t c e ts cs by.1 rise.1)
-
-  rise-told : (ts : List Tally) (cs : List OrderClass) → AreToldBy kind run shown ts cs → AreRising ts → FirstsRise cs
-  rise-told [] [] by rise = tt
-  rise-told [] (d ∷ cs) by rise = absurd by
-  rise-told (u ∷ ts) [] by rise = absurd by
-  rise-told (u ∷ ts) (d ∷ cs) by rise = (behind-told u d by.0.first ts cs by.1 rise.0, rise-told ts cs by.1 rise.1)
+  firsts-told : (ts : List Tally) (cs : List OrderClass) → AreToldBy kind run shown ts cs → map (λ (c : OrderClass). c.first) cs ≡ map (λ (t : Tally). t.first) ts
+  firsts-told [] [] by = refl
+  firsts-told [] (d ∷ cs) by = absurd by
+  firsts-told (u ∷ ts) [] by = absurd by
+  firsts-told (u ∷ ts) (d ∷ cs) by = (λ i. by.0.first i ∷ firsts-told ts cs by.1 i)
 
   -- ---- classes
 
@@ -212,21 +185,21 @@ module _ (kind : Kind) (tables : List Table) (run : Spec) (shown : List Shows) (
       pub tally : IsTallyOf t.number states t
       pub some : 0 < t.count
 
-    known-place : (t : Tally) → Has t by.tallies → 0 < t.count → IsKnown t
+    known-place : (t : Tally) → Among t by.tallies → 0 < t.count → IsKnown t
     known-place t has lt =
-        let at = place-of by.tallies t has in
+        let at = among-at by.tallies t has in
         let is = by.tallied.each at.0 t at.1 in
         record { place = ap (λ k. slice_get by.tallies k) is.number ∙ at.1; tally = subst (λ k. IsTallyOf k states t) (sym is.number) is; some = lt }
 
-    known-turn : (t : Tally) → Has t by.turn → IsKnown t
+    known-turn : (t : Tally) → Among t by.turn → IsKnown t
     known-turn t has = all-at IsKnown by.turn
         (All-permutation IsKnown (filter is_counted by.tallies) by.turn by.in_turn.same
         (all-in IsKnown (filter is_counted by.tallies) (λ u m. (let x = counted-in by.tallies u m in known-place u x.0 x.1)))) t has
 
-    turn-of : (t : Tally) → Has t by.tallies → 0 < t.count → Has t by.turn
-    turn-of t has lt = all-at (λ u. Has u by.turn) (filter is_counted by.tallies)
-        (All-permutation (λ u. Has u by.turn) by.turn (filter is_counted by.tallies) (IsPermutation-sym (filter is_counted by.tallies) by.turn by.in_turn.same)
-        (all-in (λ u. Has u by.turn) by.turn (λ u m. m))) t (in-counted by.tallies t has lt)
+    turn-of : (t : Tally) → Among t by.tallies → 0 < t.count → Among t by.turn
+    turn-of t has lt = all-at (λ u. Among u by.turn) (filter is_counted by.tallies)
+        (All-permutation (λ u. Among u by.turn) by.turn (filter is_counted by.tallies) (IsPermutation-sym (filter is_counted by.tallies) by.turn by.in_turn.same)
+        (all-in (λ u. Among u by.turn) by.turn (λ u m. m))) t (in-counted by.tallies t has lt)
 
     -- what the first rank of a tally shows
     record IsShown (t : Tally) : Type 0 where
@@ -248,14 +221,16 @@ module _ (kind : Kind) (tables : List Table) (run : Spec) (shown : List Shows) (
         let one = first.1 in
         omega arith
 
-    rising : (ts : List Tally) → ((t : Tally) → Has t ts → IsKnown t) → ((n : ℕ) → sum_by (one_at n) ts ≤ 1) → IsNonDecreasingBy (λ (x : Tally). x.first) ts → AreRising ts
-    rising [] known few sorted = tt
-    rising (t ∷ ts) known few sorted = (
-      before-all t.first ts (λ u has. apart u has (cases_lt t.first u.first)),
-      rising ts (λ u has. known u (inr has)) (λ n. (let sum = sum_by-cons (one_at n) t ts in let le = few n in omega arith)) (sorted-tail t ts sorted),
+    rising : (low : ℕ) (ts : List Tally) → ((t : Tally) → Among t ts → IsKnown t) → ((n : ℕ) → sum_by (one_at n) ts ≤ 1) → IsNonDecreasingBy (λ (x : Tally). x.first) ts
+        → ((u : Tally) → Among u ts → low ≤ u.first) → RiseFrom low (map (λ (t : Tally). t.first) ts)
+    rising low [] known few sorted above = tt
+    rising low (t ∷ ts) known few sorted above = (
+      above t (inl refl),
+      rising (suc t.first) ts (λ u has. known u (inr has)) (λ n. (let sum = sum_by-cons (one_at n) t ts in let le = few n in omega arith)) (sorted-tail t ts sorted)
+          (λ u has. (let lt = apart u has (cases_lt t.first u.first) in omega arith)),
     )
       where
-        apart : (u : Tally) → Has u ts → (t.first < u.first) ⊎ (u.first ≤ t.first) → t.first < u.first
+        apart : (u : Tally) → Among u ts → (t.first < u.first) ⊎ (u.first ≤ t.first) → t.first < u.first
         apart u has (inl lt) = lt
         apart u has (inr le) = absurd (
             let ge = head-first t ts sorted u has in
@@ -270,7 +245,7 @@ module _ (kind : Kind) (tables : List Table) (run : Spec) (shown : List Shows) (
             let le1 = few u.number in
             omega arith)
 
-    class-is : (c : OrderClass) → Has c cs → IsClassOf kind tables run c
+    class-is : (c : OrderClass) → Among c cs → IsClassOf kind tables run c
     class-is c has =
         let x = tally-of by.turn cs by.told c has in
         let t : Tally = x.0 in
@@ -295,7 +270,7 @@ module _ (kind : Kind) (tables : List Table) (run : Spec) (shown : List Shows) (
           shows = ap (shows_of_line tables run) (alone kind run c.first c.line.items first.0 is.line first.1) ∙ first.2;
         }
 
-    all-there : (rank : ℕ) (s : Shows) → ShowsAt kind tables run rank s → (c : OrderClass) × Has c cs × (c.shows ≡ s)
+    all-there : (rank : ℕ) (s : Shows) → ShowsAt kind tables run rank s → (c : OrderClass) × Among c cs × (c.shows ≡ s)
     all-there rank s so =
         let y = told.some rank s so in
         let m = told.met y.state y.inside in
@@ -306,7 +281,7 @@ module _ (kind : Kind) (tables : List Table) (run : Spec) (shown : List Shows) (
         let pos = count-some y.state.shows states y.state y.inside refl m.some in
         let count = is.count in
         let some : 0 < t.0.count = omega arith in
-        let c = class-of by.turn cs by.told t.0 (turn-of t.0 (get-has by.tallies y.state.shows t.0 t.1) some) in
+        let c = class-of by.turn cs by.told t.0 (turn-of t.0 (at-among by.tallies y.state.shows t.0 t.1) some) in
         (c.0, c.1, same-some c.0.shows s (sym c.2.shows ∙ ap (λ n. slice_get shown n) is.number ∙ y.at))
 
     pub are-classes : AreClassesOf kind tables run cs
@@ -314,7 +289,7 @@ module _ (kind : Kind) (tables : List Table) (run : Spec) (shown : List Shows) (
       each = class-is;
       all = all-there;
       alone = λ rank ks ls h k. alone kind run rank ks ls h k;
-      rise = rise-told by.turn cs by.told (rising by.turn known-turn once by.in_turn.sorted);
+      rise = subst (RiseFrom 0) (sym (firsts-told by.turn cs by.told)) (rising 0 by.turn known-turn once by.in_turn.sorted (λ u has. omega arith));
       few =
           (let total = total-told by.turn cs by.told in
           let same = sum_by-IsPermutation (λ (t : Tally). t.count) (filter is_counted by.tallies) by.turn by.in_turn.same in
@@ -341,9 +316,9 @@ all-found kind run shown states ts turn h tallied inturn =
     All-permutation (IsFound kind run shown) (filter is_counted ts) turn inturn.same
     (all-in (IsFound kind run shown) (filter is_counted ts) (λ t m. (let x = counted-in ts t m in found t x.0 x.1)))
   where
-    found : (t : Tally) → Has t ts → 0 < t.count → IsFound kind run shown t
+    found : (t : Tally) → Among t ts → 0 < t.count → IsFound kind run shown t
     found t has lt =
-        let at = place-of ts t has in
+        let at = among-at ts t has in
         let is = tallied.each at.0 t at.1 in
         let inside = get-inside ts at.0 t at.1 in
         let long = tallied.long in

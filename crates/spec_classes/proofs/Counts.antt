@@ -1,5 +1,5 @@
 -- Numbers of ranks add up, where of no rank both is so.
-use Rattle.std.proofs.Common.{◌≡◌, refl, ap, ◌∙◌, ℕ, suc, ◌+◌, ◌≤◌, Bool, true, false, nat_lt, cond, List, [], ◌∷◌, length, ◌⊎◌, inl, inr, ⊎_elim, arith}
+use Rattle.std.proofs.Common.{◌≡◌, refl, ap, ◌∙◌, ℕ, suc, ◌+◌, ◌≤◌, Bool, true, false, nat_lt, cond, List, [], ◌∷◌, length, map, ◌⊎◌, inl, inr, ⊎_elim, arith}
 use Rattle.std.proofs.lemmas.Bool.{ltb-true, ltb-false}
 use Rattle.lock_queues.specs.Reasons.{Among}
 use Rattle.order_classes.specs.Numbers.{RiseFrom}
@@ -81,6 +81,15 @@ rise-least low r (x ∷ xs) rise (inr m) =
     let le : low ≤ x = rise.0 in
     let rec : suc x ≤ r = rise-least (suc x) r xs rise.1 m in
     omega (arith, le, rec)
+
+-- what is in a list whose numbers rise has none below the first
+pub behind : {A : Type 0} (f : A → ℕ) (low : ℕ) (xs : List A) (x : A) → RiseFrom low (map f xs) → Among x xs → low ≤ f x
+behind {A = A} f low xs x rise m = rise-least low (f x) (map f xs) rise (among-map xs m)
+  where
+    among-map : (ys : List A) → Among x ys → Among (f x) (map f ys)
+    among-map [] n = absurd n
+    among-map (y ∷ ys) (inl e) = inl (ap f e)
+    among-map (y ∷ ys) (inr n) = inr (among-map ys n)
 
 merged-rise : (low from : ℕ) (xs ys : List ℕ) → low ≤ from → RiseFrom from xs → RiseFrom low ys → ((r : ℕ) → Among r xs → Among r ys → ⊥)
     → RiseFrom low (merged xs ys)

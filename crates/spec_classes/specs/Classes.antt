@@ -1,6 +1,5 @@
 -- The orders of a spec in classes, by what they show.
-use Rattle.std.specs.Prelude.{◌≡◌, ℕ, ◌+◌, ◌<◌, ◌^◌, List, [], ◌∷◌, Some, option_map}
-use Rattle.path_counts.specs.Paths.{Has}
+use Rattle.std.specs.Prelude.{◌≡◌, ℕ, ◌+◌, ◌<◌, ◌^◌, List, [], ◌∷◌, map, Some, option_map}
 use Rattle.lock_queues.specs.Reasons.{Among}
 use Rattle.binding_model.specs.declared.tables.Table.{Table}
 use Rattle.bound_specs.specs.Spec.{Spec}
@@ -9,7 +8,7 @@ use Rattle.spec_schedules.specs.Ranked.{IsOrderAt}
 use Rattle.order_classes.specs.declared.shows.Shows.{Shows}
 use Rattle.order_classes.specs.Shows.{shows_of_line}
 use Rattle.order_classes.specs.Letters.{Answers, answers_of, session_orders, serial_line}
-use Rattle.order_classes.specs.Numbers.{IsNumberOf, IsLeastOf}
+use Rattle.order_classes.specs.Numbers.{IsNumberOf, IsLeastOf, RiseFrom}
 use Rattle.spec_classes.specs.declared.classes.OrderClass.{OrderClass}
 
 -- the order of a rank shows this
@@ -28,21 +27,12 @@ abbrev pub total_count : List OrderClass → ℕ
 total_count [] = 0
 total_count (c ∷ cs) = c.count + total_count cs
 
-abbrev pub AllBehind : ℕ → List OrderClass → Type 0
-AllBehind first [] = Unit {0}
-AllBehind first (c ∷ cs) = (first < c.first) × AllBehind first cs
-
--- they stand in the order of their first ranks
-abbrev pub FirstsRise : List OrderClass → Type 0
-FirstsRise [] = Unit {0}
-FirstsRise (c ∷ cs) = AllBehind c.first cs × FirstsRise cs
-
--- the classes of all orders of the kind, by what they show: a rank has one order, and all counts have a sum below 2^63
+-- the classes of all orders of the kind, by what they show, in the order of their first ranks: a rank has one order, and all counts have a sum below 2^63
 pub record AreClassesOf (kind : Kind) (tables : List Table) (run : Spec) (cs : List OrderClass) : Type 0 where
-  pub each : (c : OrderClass) → Has c cs → IsClassOf kind tables run c
-  pub all : (rank : ℕ) (s : Shows) → ShowsAt kind tables run rank s → (c : OrderClass) × Has c cs × (c.shows ≡ s)
+  pub each : (c : OrderClass) → Among c cs → IsClassOf kind tables run c
+  pub all : (rank : ℕ) (s : Shows) → ShowsAt kind tables run rank s → (c : OrderClass) × Among c cs × (c.shows ≡ s)
   pub alone : (rank : ℕ) (ks ls : List ℕ) → IsOrderAt kind run rank ks → IsOrderAt kind run rank ls → ks ≡ ls
-  pub rise : FirstsRise cs
+  pub rise : RiseFrom 0 (map (λ (c : OrderClass). c.first) cs)
   pub few : total_count cs < 2 ^ 63
 
 -- ---- serial orders

@@ -1,11 +1,11 @@
 //! Orders in classes.
 
-ghost use Rattle.std.specs.Prelude.{◌≡◌, ◌≢◌, [], IfOk, IsErrOf};
+ghost use Rattle.std.specs.Prelude.{◌≡◌, ◌≢◌, ℕ, [], IfOk, IsErrOf};
 ghost use Rattle.machine_model.specs.World.{World};
 ghost use Rattle.machine_model.specs.Start.{Started, start};
 ghost use Rattle.session_steps.specs.Refused.{IsRefusedBy};
 ghost use Rattle.session_steps.specs.declared.error.StartError.{StartError};
-ghost use Rattle.schedule_counts.specs.declared.counting.StatesError.TheVariants.{Start};
+ghost use Rattle.schedule_counts.specs.declared.counting.StatesError.TheVariants.{Start, TooMany};
 ghost use Rattle.schedule_counts.specs.Classes.{AreClasses};
 ghost use Rattle.schedule_counts.specs.States.{AreFinalStates};
 ghost use Rattle.spec_classes.specs.Classes.{AreClassesOf};
@@ -57,16 +57,24 @@ pub fn classes_of<W: Watch>(
     watch: &W,
 ) -> Result<Vec<OrderClass>, StatesError>
     ensures classes { IfOk result (λ classes. AreClassesOf kind tables.now spec.now.run classes.items) }
+    ensures starts { IfOk result (λ _. (w : World) × (start spec.now.run ≡ Started w)) }
+    ensures many { (noted : ℕ) → IsErrOf result (TooMany noted) → (spec.now.run.lines ≡ []) × ((w : World) × (start spec.now.run ≡ Started w)) }
     ensures refused { (error : StartError) → IsErrOf result (StatesError.Start error) → IsRefusedBy error (start spec.now.run) }
 {
-    let mut world = started(alloc, spec)?;
+    let mut world = match started(alloc, spec) {
+        Ok(world) => world,
+        Err(error) => return Err(error),
+    };
     if spec.has_lines() {
         return match line_classes(alloc, &mut world, spec, tables, kind) {
             Ok(classes) => Ok(classes),
             Err(_) => Err(StatesError::Memory),
         };
     }
-    let found = final_states(alloc, spec, tables, kind, room, watch)?;
+    let found = match final_states(alloc, spec, tables, kind, room, watch) {
+        Ok(found) => found,
+        Err(error) => return Err(error),
+    };
     match word_classes(alloc, &mut world, spec, tables, kind, &found) {
         Ok(classes) => Ok(classes),
         Err(_) => Err(StatesError::Memory),

@@ -1,11 +1,11 @@
 //! What serial orders answer.
 
-ghost use Rattle.std.specs.Prelude.{◌≡◌, [], replicate, IfOk, IsErrOf, OnOk};
+ghost use Rattle.std.specs.Prelude.{◌≡◌, ℕ, [], replicate, IfOk, IsErrOf, OnOk};
 ghost use Rattle.bound_specs.specs.Spec.{counts_of, queues_of};
 ghost use Rattle.machine_model.specs.Start.{start};
 ghost use Rattle.session_steps.specs.Refused.{IsRefusedBy};
 ghost use Rattle.session_steps.specs.declared.error.StartError.{StartError};
-ghost use Rattle.schedule_counts.specs.declared.counting.StatesError.TheVariants.{Start};
+ghost use Rattle.schedule_counts.specs.declared.counting.StatesError.TheVariants.{Start, TooMany};
 ghost use Rattle.spec_classes.specs.Classes.{AreSerialAnswers};
 ghost use Rattle.spec_classes.specs.Serial.{AreWith};
 ghost use Rattle.spec_classes.specs.Showing.{AreSteps, IsAtStart};
@@ -33,6 +33,7 @@ pub fn serial_answers(
     requires { spec.now.run.lines ≡ [] }
     ensures answers { IfOk result (AreSerialAnswers tables.now spec.now.run) }
     ensures refused { (error : StartError) → IsErrOf result (StatesError.Start error) → IsRefusedBy error (start spec.now.run) }
+    ensures few { (noted : ℕ) → IsErrOf result (TooMany noted) → ⊥ }
 {
     let mut world = started(alloc, spec)?;
     match all_answers(alloc, &mut world, spec, tables) {

@@ -1,10 +1,10 @@
 //! The machine at the start of a spec.
 
-ghost use Rattle.std.specs.Prelude.{◌≡◌, [], IfOk, IsErrOf};
+ghost use Rattle.std.specs.Prelude.{◌≡◌, ℕ, [], IfOk, IsErrOf};
 ghost use Rattle.machine_model.specs.Start.{start};
 ghost use Rattle.session_steps.specs.Refused.{IsRefusedBy};
 ghost use Rattle.session_steps.specs.declared.error.StartError.{StartError};
-ghost use Rattle.schedule_counts.specs.declared.counting.StatesError.TheVariants.{Start};
+ghost use Rattle.schedule_counts.specs.declared.counting.StatesError.TheVariants.{Start, TooMany};
 ghost use Rattle.spec_classes.specs.Showing.{IsAtStart};
 
 use bound_specs::Spec;
@@ -19,6 +19,7 @@ pub(crate) fn started(alloc: Global, spec: &Spec) -> Result<MarkedWorld<'_>, Sta
     ensures at { IfOk result (IsAtStart spec.now) }
     ensures unmarked { IfOk result (λ world. world.marked ≡ []) }
     ensures refused { (error : StartError) → IsErrOf result (StatesError.Start error) → IsRefusedBy error (start spec.now.run) }
+    ensures few { (noted : ℕ) → IsErrOf result (TooMany noted) → ⊥ }
 {
     let numbers = SpecNumbers::of_spec(alloc, spec)?;
     let numbers = shared(alloc, numbers)?;

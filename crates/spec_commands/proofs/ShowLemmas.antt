@@ -24,13 +24,13 @@ text-is text file is =
     cc (c.1.1)
 
 module _ {W : Type 0} (contents : W → Option (List ℕ)) (old new : Counted W) (bytes path : List ℕ) (wanted : WantedOrder) (form : ShowForm) (file : SpecFile)
-    (rank : ℕ) (statements : List (List ℕ)) (shown : Shown) (is : IsFileOf bytes file) (wants : IsWanted file wanted rank) (inside : rank < ranks file.run)
-    (found : IsFound file.text file rank statements shown) where
+    (rank : ℕ) (statements : List (List ℕ)) (levels : List ℕ) (shown : Shown) (is : IsFileOf bytes file) (wants : IsWanted file wanted rank) (inside : rank < ranks file.run)
+    (found : IsFound file.text file rank statements levels shown) where
   abbrev text : List ℕ
-  text = text_by form path file rank statements shown
+  text = text_by form path file rank statements levels shown
 
-  here : IsFound bytes file rank statements shown
-  here = subst (λ t. IsFound t file rank statements shown) (text-is bytes file is) found
+  here : IsFound bytes file rank statements levels shown
+  here = subst (λ t. IsFound t file rank statements levels shown) (text-is bytes file is) found
 
   showing : IsShowingOf bytes path wanted form text
   showing = record {
@@ -38,7 +38,7 @@ module _ {W : Type 0} (contents : W → Option (List ℕ)) (old new : Counted W)
     is_file = is;
     rank = rank;
     wants = wants;
-    showing = record { rank_is = inside; statements = statements; lines = here.lines; shown = shown; shows = here.shows; text_is = refl };
+    showing = record { rank_is = inside; statements = statements; lines = here.lines; levels = levels; level_lines = here.level_lines; shown = shown; shows = here.shows; text_is = refl };
   }
 
   -- what is written of it is the run's

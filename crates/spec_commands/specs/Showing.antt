@@ -10,6 +10,7 @@ use Rattle.session_machine.specs.Running.{IsNotRunBy}
 use Rattle.shown_texts.specs.Pages.{page_bytes}
 use Rattle.shown_values.specs.Page.{page_json}
 use Rattle.spec_binding.specs.SpecFiles.{IsNoSpec}
+use Rattle.spec_texts.specs.Levels.{AreLevelLines}
 use Rattle.spec_texts.specs.Texts.{AreStepLines}
 use Rattle.transcripts.specs.Counted.{Wrote, Stopped}
 use Rattle.transcripts.specs.declared.counted.Counted.{Counted}
@@ -41,18 +42,20 @@ abbrev pub IsWantedPlace : WantedOrder → ShowFault → Type 0
 IsWantedPlace wanted (NoRank fault) = IsPlaceOf wanted fault
 IsWantedPlace wanted fault = Unit {0}
 
--- what is written of an order of this rank, with the path of the file, the statements of its steps and what is shown of the line
-abbrev pub text_by : ShowForm → List ℕ → SpecFile → ℕ → List (List ℕ) → Shown → List ℕ
-text_by Text path file rank statements shown = page_bytes (record {
+-- what is written of an order of this rank, with the path of the file, the statements of its steps, the lines of levels that have no effect, and what is
+-- shown of the line
+abbrev pub text_by : ShowForm → List ℕ → SpecFile → ℕ → List (List ℕ) → List ℕ → Shown → List ℕ
+text_by Text path file rank statements levels shown = page_bytes (record {
   path = path;
   rank = rank;
   orders = ranks file.run;
   sessions = file.session_names;
   steps = file.step_names;
   statements = statements;
+  level_lines = levels;
   shown = shown;
 })
-text_by Json path file rank statements shown = page_json (record {
+text_by Json path file rank statements levels shown = page_json (record {
   name = path;
   rank = rank;
   orders = ranks file.run;
@@ -69,9 +72,11 @@ pub record IsShowing (bytes path : List ℕ) (file : SpecFile) (rank : ℕ) (for
   pub rank_is : rank < ranks file.run
   pub statements : List (List ℕ)
   pub lines : AreStepLines bytes file statements
+  pub levels : List ℕ
+  pub level_lines : AreLevelLines bytes file levels
   pub shown : Shown
   pub shows : IsShownOf bytes file (line_of file.run rank) shown
-  pub text_is : text ≡ text_by form path file rank statements shown
+  pub text_is : text ≡ text_by form path file rank statements levels shown
 
 -- the same of the order that is asked for, in the spec file that the bytes are
 pub record IsShowingOf (bytes path : List ℕ) (wanted : WantedOrder) (form : ShowForm) (text : List ℕ) : Type 0 where
@@ -110,8 +115,9 @@ Writes contents old new text (Err NoMemory) = new ≡ old
 Writes contents old new text (Err fault) = ⊥
 
 -- what a line shows and what its steps send, of a rank of the spec file
-pub record IsFound (bytes : List ℕ) (file : SpecFile) (rank : ℕ) (statements : List (List ℕ)) (shown : Shown) : Type 0 where
+pub record IsFound (bytes : List ℕ) (file : SpecFile) (rank : ℕ) (statements : List (List ℕ)) (levels : List ℕ) (shown : Shown) : Type 0 where
   pub lines : AreStepLines bytes file statements
+  pub level_lines : AreLevelLines bytes file levels
   pub shows : IsShownOf bytes file (line_of file.run rank) shown
 
 -- it is not found: the line is not run, or memory ran out

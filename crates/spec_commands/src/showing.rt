@@ -1,6 +1,6 @@
 //! What happens in one order, from the bytes of a spec to the text or the JSON that is written.
 
-ghost use Rattle.std.specs.Prelude.{◌≡◌, ◌<◌, ℕ, All, IfErr, IfOk, length, map};
+ghost use Rattle.std.specs.Prelude.{◌≡◌, ◌<◌, ℕ, [], All, IfErr, IfOk, length, map};
 ghost use Rattle.bound_specs.specs.Spec.{Step, line_of, ranks};
 ghost use Rattle.machine_model.specs.Start.{start};
 ghost use Rattle.session_machine.specs.Running.{IsNotRunBy};
@@ -18,7 +18,7 @@ use session_machine::{RunError, show_line};
 use shown_texts::show_text;
 use shown_values::show_json;
 use spec_binding::{SpecFault, spec_of};
-use spec_texts::{statement_texts, tables_of};
+use spec_texts::{level_lines, statement_texts, tables_of};
 use std::alloc::{AllocError, Global};
 use std::io::Write;
 use transcripts::{Counted, WriteFault};
@@ -101,17 +101,18 @@ fn wanted_rank(alloc: Global, spec: &Spec, wanted: WantedOrder<'_>) -> Result<u6
     }
 }
 
-/// What is shown of a line, and what the steps of its spec send.
+/// What is shown of a line, what the steps of its spec send, and on which lines of the file levels stand that have no effect.
 #[derive(Drop)]
 struct Found {
     statements: Vec<Text>,
+    levels: Vec<usize>,
     shown: Shown,
 }
 
 fn find_shown(alloc: Global, spec: &Spec, line: &Line) -> Result<Found, ShowFault>
     requires { All (λ k. k < length spec.now.run.steps) line.now.items }
     ensures found { IfOk result (λ found. (rank : ℕ) → line.now.items ≡ line_of spec.now.run rank
-        → IsFound spec.now.text spec.now rank found.statements.items found.shown) }
+        → IsFound spec.now.text spec.now rank found.statements.items found.levels.items found.shown) }
     ensures refused { IfErr result (IsNotFound spec.now) }
 {
     let Ok(tables) = tables_of(alloc, spec) else {
@@ -120,8 +121,15 @@ fn find_shown(alloc: Global, spec: &Spec, line: &Line) -> Result<Found, ShowFaul
     let Ok(statements) = statement_texts(alloc, spec) else {
         return Err(ShowFault::NoMemory);
     };
+    let Ok(levels) = level_lines(alloc, spec) else {
+        return Err(ShowFault::NoMemory);
+    };
     match show_line(alloc, spec, &tables, line.as_slice()) {
-        Ok(shown) => Ok(Found { statements, shown }),
+        Ok(shown) => Ok(Found {
+            statements,
+            levels,
+            shown,
+        }),
         Err(error) => Err(ShowFault::Run(error)),
     }
 }
@@ -139,7 +147,7 @@ fn write_shown<W: Write>(
 ) -> Result<(), ShowFault>
     requires fresh { failures_of out.old < u64.MAX }
     requires line { line.now.items ≡ line_of spec.now.run rank }
-    ensures { Writes W.contents out.old out.new (text_by form path.now spec.now rank found.now.statements.items found.now.shown) result }
+    ensures { Writes W.contents out.old out.new (text_by form path.now spec.now rank found.now.statements.items found.now.levels.items found.now.shown) result }
 {
     match form {
         ShowForm::Text => write_text(alloc, spec, path, rank, found, out),
@@ -156,7 +164,7 @@ fn write_text<W: Write>(
     out: &mut Counted<W>,
 ) -> Result<(), ShowFault>
     requires { failures_of out.old < u64.MAX }
-    ensures { Writes W.contents out.old out.new (text_by ShowForm.Text path.now spec.now rank found.now.statements.items found.now.shown) result }
+    ensures { Writes W.contents out.old out.new (text_by ShowForm.Text path.now spec.now rank found.now.statements.items found.now.levels.items found.now.shown) result }
 {
     let page = shown_texts::Page {
         path,
@@ -165,6 +173,7 @@ fn write_text<W: Write>(
         sessions: spec.session_names(),
         steps: spec.step_names(),
         statements: &found.statements,
+        level_lines: &found.levels,
         shown: &found.shown,
     };
     let Ok(text) = show_text(alloc, &page) else {
@@ -187,7 +196,7 @@ fn write_json<W: Write>(
 ) -> Result<(), ShowFault>
     requires fresh { failures_of out.old < u64.MAX }
     requires line { line.now.items ≡ line_of spec.now.run rank }
-    ensures { Writes W.contents out.old out.new (text_by ShowForm.Json path.now spec.now rank found.now.statements.items found.now.shown) result }
+    ensures { Writes W.contents out.old out.new (text_by ShowForm.Json path.now spec.now rank found.now.statements.items found.now.levels.items found.now.shown) result }
 {
     let Ok(text) = json_of(
         alloc,
@@ -217,7 +226,7 @@ fn json_of(
     shown: &Shown,
 ) -> Result<Vec<u8>, AllocError>
     requires { line.now.items ≡ line_of spec.now.run rank }
-    ensures { IfOk result (λ text. text.items ≡ text_by ShowForm.Json path.now spec.now rank statements.now shown.now) }
+    ensures { IfOk result (λ text. text.items ≡ text_by ShowForm.Json path.now spec.now rank statements.now [] shown.now) }
 {
     let step_sessions = sessions_of_steps(alloc, spec)?;
     let page = shown_values::Page {

@@ -1,2 +1,4 @@
 pub mod OneLine
 pub mod Texts
+pub mod Statements
+pub mod Levels

@@ -11,7 +11,7 @@ use Rattle.perm_ranks.proofs.SomeLemmas.{some-words}
 use Rattle.perm_ranks.proofs.BlockLemmas.{some-total}
 use Rattle.perm_ranks.proofs.WordLemmas.{Takes, done, takes, words-take, each-at}
 use Rattle.bound_specs.specs.Spec.{line, line_by, line_of, ranks, ranks_by, counts_of, queues_of}
-use Rattle.machine_model.specs.World.{World, send_all, outcome_of}
+use Rattle.machine_model.specs.World.{World, outcome_of}
 use Rattle.machine_model.specs.Start.{Started}
 use Rattle.machine_model.specs.Outcome.{outcome_of_line}
 use Rattle.machine_model.proofs.Basics.{both_true, and_true}
@@ -104,13 +104,6 @@ ran-at t p block world swaps tour is none =
         and-false : (r : Bool) → (r && false) ≡ false
         and-false true = refl
         and-false false = refl
-
--- and the world is the one behind the line of the only rank
-pub world-at : (t : Tour) (p : Word) (block : Block) (world : World) (swaps : List Bool) → IsTour t → IsPlace t p block world swaps → total block.left ≡ 0
-    → world ≡ send_all t.spec.steps t.world (line_of t.spec block.first)
-world-at t p block world swaps tour is none =
-    is.world_is ∙ sym (ap (λ ls. send_all t.spec.steps t.world (line_by ls (queues_of t.spec) block.first)) tour.words
-    ∙ ap (world_after t) (word-alone t p block world swaps is none))
 
 -- the words that go on with such a letter
 pub swap-within : (t : Tour) (p : Word) (block : Block) (world : World) (swaps : List Bool) (a k r : ℕ)

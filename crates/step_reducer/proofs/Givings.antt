@@ -85,7 +85,7 @@ module _ (file : SpecFile) (reduce : Bool) (first : ℕ) where
       let sent_few = walked.sent_few in
       let begin : given.run.first ≡ at = walked.moved.begin ∙ r in
       let most : given.sent ≤ most_steps file.run at given.run.fact = subst (λ m. given.sent ≤ most_steps file.run m given.run.fact) begin walked.most in (
-        record { first = begin; some = walked.moved.some; few = omega (arith, few, behind); one = walked.moved.one; ran = walked.moved.ran.one; facts = walked.moved.facts },
+        record { first = begin; some = walked.moved.some; few = omega (arith, few, behind); one = walked.moved.one; ran = walked.moved.ran; facts = walked.moved.facts },
         record {
           least = omega arith;
           most = omega (arith, most);

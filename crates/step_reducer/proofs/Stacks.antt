@@ -194,7 +194,7 @@ empty-frames [] e = refl
 empty-frames (f ∷ fs) e = absurd (omega arith)
 
 -- where more was told and the machine has caught up, the stack is the same
-pub stack-told : (reduce : Bool) (file : SpecFile) (at end : ℕ) (x : Stacked) (told : List (List (List Event))) (level : Bool) → IsStack reduce file at end x
+stack-told : (reduce : Bool) (file : SpecFile) (at end : ℕ) (x : Stacked) (told : List (List (List Event))) (level : Bool) → IsStack reduce file at end x
     → IsStack reduce file at end (record x { told = told; level = level })
 stack-told reduce file at end x told level is = record { below = is.below; top = is.top; to = is.to; above = is.above }
 

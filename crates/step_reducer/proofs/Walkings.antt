@@ -1,27 +1,21 @@
 -- A walk of words or of lines has gone on.
-use Rattle.std.proofs.Common.{◌≡◌, refl, sym, ap, ◌∙◌, subst, ℕ, suc, ◌+◌, ◌-◌, ◌<◌, ◌≤◌, Bool, true, false, List, Option, Some, length, arith}
+use Rattle.std.proofs.Common.{◌≡◌, refl, sym, ap, ◌∙◌, subst, ℕ, suc, ◌+◌, ◌-◌, ◌<◌, ◌≤◌, Bool, false, List, Some, length, arith}
 use Rattle.bound_specs.specs.Spec.{SpecFile, ranks, line_of}
-use Rattle.machine_model.specs.World.{World}
-use Rattle.session_machine.specs.Running.{Running}
 use Rattle.events.specs.declared.event.Event.{Event}
-use Rattle.rank_facts.specs.declared.fact.Fact.{Fact}
-use Rattle.rank_facts.specs.declared.fact.Fact.TheVariants.{Ran, Swap}
-use Rattle.marked_worlds.specs.Worlds.{MarkedRunning}
 use Rattle.step_reducer.specs.declared.fact.Given.{Given}
 use Rattle.step_reducer.specs.declared.word_walk.WordWalk.{WordWalk}
 use Rattle.step_reducer.specs.declared.line_walk.LineWalk.{LineWalk}
 use Rattle.step_reducer.specs.declared.walk.Walk.{Walk}
 use Rattle.step_reducer.specs.declared.walk.Walk.TheVariants.{Words, Lines}
 use Rattle.known_worlds.specs.Fronts.{front}
-use Rattle.known_worlds.proofs.PathLemmas.{path-told-more}
 use Rattle.step_reducer.specs.Fronts.{line_before, new_steps, most_steps}
-use Rattle.step_reducer.specs.Saying.{Giving, fact_of, giving_of}
-use Rattle.step_reducer.specs.Walks.{AllHave, LiesBehind, IsWalk, HasGiven}
+use Rattle.step_reducer.specs.Saying.{Giving, giving_of}
+use Rattle.step_reducer.specs.Walks.{AllHave, IsWalk, HasGiven}
 use Rattle.step_reducer.specs.Lines.{IsLines, HasRun}
-use Rattle.step_reducer.specs.Walking.{IsWords, IsLinesTo, IsWalkOf, IsGoing, walk_at, walk_end, walk_told, leveled, moved_to, standing_in, HasMoved, HasWalked}
-use Rattle.step_reducer.specs.Shardwise.{Shardwise, GivesPart, Shows, IsOnward, IsKept, behind_line, world_behind, was_run, shown_by}
+use Rattle.step_reducer.specs.Walking.{IsWords, IsLinesTo, IsWalkOf, IsGoing, walk_at, walk_end, walk_told, moved_to, HasMoved, HasWalked}
+use Rattle.step_reducer.specs.Shardwise.{Shardwise, GivesPart, IsOnward}
 use Rattle.step_reducer.proofs.Sendings.{words-run}
-use Rattle.step_reducer.proofs.Stacks.{stack-later, stack-told}
+use Rattle.step_reducer.proofs.Stacks.{stack-later}
 
 -- ---- a walk of a shard is one of the spec, up to the shard's end and maybe further
 
@@ -145,7 +139,7 @@ lines-moved file reduce end w given v is some ran =
       one = λ run. omega (arith, begin, behind);
       at = ran.at ∙ sym behind;
       facts = subst (λ (f : SpecFile). AllHave reduce f.run given.run.first given.run.end given.run.fact) same (ran.facts reduce);
-      ran = subst (λ (f : SpecFile). LiesBehind f.run given.run.first given.run.end given.run.fact v.path.world.world) same ran.ran;
+      ran = ran.ran;
     }
 
 pub lines-walked : (file : SpecFile) (reduce : Bool) (first end : ℕ) (w : LineWalk) (given : Giving) (v : LineWalk)
@@ -178,116 +172,13 @@ pub onward-moved : (file : SpecFile) (reduce : Bool) (at end : ℕ) (w : Walk) (
     → HasMoved file reduce end w given v → IsOnward file reduce given.run.end v
 onward-moved file reduce at end w given v is moved = record { going = moved.going; to = moved.to ∙ is.to; here = moved.at }
 
--- the world that it stands in is one of the spec, and not spent
-pub going-stands : (file : SpecFile) (reduce : Bool) (w : Walk) → IsGoing file reduce w → ((standing_in w).file ≡ file) × ((standing_in w).spent ≡ false)
-going-stands file reduce (Words w) is = (is.0.stack.top.frame.file_is, is.0.stack.top.frame.whole)
-going-stands file reduce (Lines w) is = (is.0.file_is, is.0.along.whole)
-
--- what is shown is the world behind the line of what was run
-world-shown : (file : SpecFile) (given : Giving) (v : Walk) (ran : Bool) → ran ≡ was_run given.run.fact
-    → LiesBehind file.run given.run.first given.run.end given.run.fact (standing_in v).world → shown_by ran v ≡ world_behind file.run given.run
-world-shown file given v ran is lies = ap (λ b. shown_by b v) is ∙ at given.run.fact refl
-  where
-    at : (f : Fact) → given.run.fact ≡ f → shown_by (was_run f) v ≡ behind_line file.run given.run.first f
-    at (Ran o) e = ap Some (lies.world_is o e)
-    at (Swap k) e = refl
-
 -- what it gives, and where it stands then
-pub part-given : (file : SpecFile) (reduce : Bool) (at end : ℕ) (behind : Option World) (told : List (List (List Event))) (spent level ran : Bool) (w : Walk)
-    (given : Given) (v : Walk) (x : Shardwise) → IsOnward file reduce at w → HasMoved file reduce end w (giving_of (walk_told v) given) v
-    → ran ≡ was_run (fact_of (walk_told v) given.run.said) → spent ≡ false
-    → (let y : Shardwise = record { file = file; reduce = reduce; at = at; end = end; behind = behind; told = told; spent = spent; level = level } in y) ≡ x
-    → GivesPart x (record {
-      file = file;
-      reduce = reduce;
-      at = given.run.end;
-      end = end;
-      behind = shown_by ran v;
-      told = walk_told v;
-      spent = false;
-      level = false;
-    }) (Some given.run)
-part-given file reduce at end behind told spent level ran w given v x is moved ran_is unspent here =
-    let same : (let y : Shardwise = record { file = file; reduce = reduce; at = at; end = end; behind = behind; told = told; spent = false; level = level } in y) ≡ x =
-    (λ k. (let y : Shardwise = record { file = file; reduce = reduce; at = at; end = end; behind = behind; told = told; spent = sym unspent k; level = level } in y)) ∙ here in
-    let shown = world-shown file (giving_of (walk_told v) given) v ran ran_is moved.ran in
-    subst (λ z. GivesPart z (record {
-      file = file;
-      reduce = reduce;
-      at = given.run.end;
-      end = end;
-      behind = shown_by ran v;
-      told = walk_told v;
-      spent = false;
-      level = false;
-    }) (Some given.run)) same (
-      record { first = moved.begin ∙ is.here; some = moved.some; few = moved.few; one = moved.one; ran = moved.ran.one; facts = moved.facts },
-      λ k. (let y : Shardwise = record {
-        file = file;
-        reduce = reduce;
-        at = given.run.end;
-        end = end;
-        behind = shown k;
-        told = walk_told v;
-        spent = false;
-        level = false;
-      } in y),
-    )
-
--- the world that a walk shows, which is not spent then
-pub world-told : (file : SpecFile) (reduce : Bool) (at end : ℕ) (told : List (List (List Event))) (spent ran level : Bool) (w : Walk) (r : MarkedRunning)
-    (x : Shardwise) → IsKept spent ran level file reduce at end w → ran ≡ true → r.world ≡ (standing_in w).world → r.file ≡ (standing_in w).file → r.spent ≡ false
-    → (let y : Shardwise = record { file = file; reduce = reduce; at = at; end = end; behind = shown_by ran w; told = told; spent = spent; level = level } in y) ≡ x
-    → Shows x r
-world-told file reduce at end told spent ran level w r x kept was world_is file_is whole here = by spent refl
-  where
-    by : (b : Bool) → spent ≡ b → Shows x r
-    by true e = absurd (let bad : true ≡ false = sym was ∙ kept.none e in cc)
-    by false e =
-        let stands = going-stands file reduce w (kept.walk e).going in
-        record {
-          file_is = file_is ∙ stands.0 ∙ ap (λ (v : Shardwise). v.file) here;
-          whole = whole;
-          behind = sym (ap (λ (v : Shardwise). v.behind) here) ∙ ap (λ b. shown_by b w) was ∙ ap (λ (v : World). Some v) (sym world_is);
-        }
-
--- ---- a walk whose machine has caught up
-
-pub going-leveled : (file : SpecFile) (reduce level : Bool) (w : Walk) → IsGoing file reduce w → IsGoing file reduce (leveled level w)
-going-leveled file reduce level (Words w) is = (
-  record {
-    tour = is.0.tour;
-    table = is.0.table;
-    steps = is.0.steps;
-    stack = stack-told w.reduce file (w.at - 1) w.end w.stack w.stack.told level is.0.stack;
-  },
-  is.1,
-)
-going-leveled file reduce level (Lines w) is = (path-told-more file w.path w.path.world.told level is.0, is.1)
-
-end-leveled : (file : SpecFile) (level : Bool) (w : Walk) → walk_end file (leveled level w) ≡ walk_end file w
-end-leveled file level (Words w) = refl
-end-leveled file level (Lines w) = refl
-
-at-leveled : (level : Bool) (w : Walk) → walk_at (leveled level w) ≡ walk_at w
-at-leveled level (Words w) = refl
-at-leveled level (Lines w) = refl
-
-pub onward-leveled : (file : SpecFile) (reduce : Bool) (at : ℕ) (level : Bool) (w : Walk) → IsOnward file reduce at w → IsOnward file reduce at (leveled level w)
-onward-leveled file reduce at level w is = record {
-  going = going-leveled file reduce level w is.going;
-  to = end-leveled file level w ∙ is.to;
-  here = at-leveled level w ∙ is.here;
-}
-
-pub told-leveled : (level : Bool) (w : Walk) → walk_told (leveled level w) ≡ walk_told w
-told-leveled level (Words w) = refl
-told-leveled level (Lines w) = refl
-
-standing-leveled : (level : Bool) (w : Walk) → standing_in (leveled level w) ≡ standing_in w
-standing-leveled level (Words w) = refl
-standing-leveled level (Lines w) = refl
-
-pub shown-leveled : (ran level : Bool) (w : Walk) → shown_by ran (leveled level w) ≡ shown_by ran w
-shown-leveled true level w = ap (λ (r : Running). Some r.world) (standing-leveled level w)
-shown-leveled false level w = refl
+pub part-given : (file : SpecFile) (reduce : Bool) (at end : ℕ) (told : List (List (List Event))) (spent : Bool) (w : Walk) (given : Given) (v : Walk)
+    (x : Shardwise) → IsOnward file reduce at w → HasMoved file reduce end w (giving_of (walk_told v) given) v → spent ≡ false
+    → (let y : Shardwise = record { file = file; reduce = reduce; at = at; end = end; told = told; spent = spent } in y) ≡ x
+    → GivesPart x (record { file = file; reduce = reduce; at = given.run.end; end = end; told = walk_told v; spent = false }) (Some given.run)
+part-given file reduce at end told spent w given v x is moved unspent here =
+    let same : (let y : Shardwise = record { file = file; reduce = reduce; at = at; end = end; told = told; spent = false } in y) ≡ x =
+    (λ k. (let y : Shardwise = record { file = file; reduce = reduce; at = at; end = end; told = told; spent = sym unspent k } in y)) ∙ here in
+    subst (λ z. GivesPart z (record { file = file; reduce = reduce; at = given.run.end; end = end; told = walk_told v; spent = false }) (Some given.run)) same
+    (record { first = moved.begin ∙ is.here; some = moved.some; few = moved.few; one = moved.one; ran = moved.ran; facts = moved.facts }, refl)

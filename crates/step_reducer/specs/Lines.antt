@@ -5,7 +5,7 @@ use Rattle.bound_specs.specs.Spec.{SpecFile, line_of}
 use Rattle.known_worlds.specs.Fronts.{front}
 use Rattle.known_worlds.specs.Paths.{IsPath}
 use Rattle.step_reducer.specs.Fronts.{most_steps}
-use Rattle.step_reducer.specs.Walks.{AllHave, LiesBehind}
+use Rattle.step_reducer.specs.Walks.{AllHave, RunsOne}
 use Rattle.step_reducer.specs.declared.line_walk.LineWalk.{LineWalk}
 use Rattle.step_reducer.specs.Saying.{Giving}
 
@@ -24,4 +24,4 @@ pub record HasRun (x : LineWalk) (given : Giving) (y : LineWalk) : Type 0 where
   pub sent : given.sent + front x.path.line.items y.path.line.items ≡ length y.path.line.items
   pub most : given.sent ≤ most_steps x.path.world.file.run given.run.first given.run.fact
   pub facts : (reduce : Bool) → AllHave reduce x.path.world.file.run given.run.first given.run.end given.run.fact
-  pub ran : LiesBehind x.path.world.file.run given.run.first given.run.end given.run.fact y.path.world.world
+  pub ran : RunsOne given.run.first given.run.end given.run.fact

@@ -2,7 +2,7 @@
 use Rattle.std.specs.Prelude.{◌≡◌, ℕ, suc, ◌+◌, ◌-◌, ◌<◌, ◌≤◌, Bool, true, false, ◌&&◌, nat_lt, List, [], ◌∷◌, ◌++◌, length, drop, set, get_or}
 use Rattle.perm_ranks.specs.Words.{Word}
 use Rattle.perm_ranks.specs.Blocks.{Block, IsBlockOf}
-use Rattle.bound_specs.specs.Spec.{Step, Spec, Queues, line, line_of, counts_of, queues_of}
+use Rattle.bound_specs.specs.Spec.{Step, Spec, Queues, line, counts_of, queues_of}
 use Rattle.machine_model.specs.World.{World, send_all}
 use Rattle.machine_model.specs.Start.{Started, start}
 use Rattle.known_worlds.specs.Paths.{first_world}
@@ -13,10 +13,6 @@ pub record Tour : Type 0 where
   pub spec : Spec
   pub world : World
   pub reduce : Bool
-
--- the world behind the line of a rank
-abbrev pub line_world : Spec → ℕ → World
-line_world spec rank = send_all spec.steps (first_world spec) (line_of spec rank)
 
 abbrev pub tour_of : Spec → Bool → Tour
 tour_of spec reduce = record { spec = spec; world = first_world spec; reduce = reduce }

@@ -9,7 +9,7 @@ use Rattle.rank_facts.specs.Facts.{IsFactOf, has_no_lines}
 use Rattle.rank_facts.specs.declared.fact.Fact.{Fact}
 use Rattle.rank_facts.specs.declared.fact.Fact.TheVariants.{Ran}
 use Rattle.events.specs.declared.event.Event.{Event}
-use Rattle.session_machine.specs.Running.{Running, IsNotRunBy}
+use Rattle.session_machine.specs.Running.{IsNotRunBy}
 use Rattle.session_machine.specs.declared.error.RunError.{RunError}
 use Rattle.session_machine.specs.declared.error.RunError.TheVariants as run_error
 use Rattle.rank_facts.specs.declared.shard.Shard.{Shard}
@@ -20,9 +20,8 @@ use Rattle.step_reducer.specs.declared.word_walk.WordWalk.{WordWalk}
 use Rattle.step_reducer.specs.declared.line_walk.LineWalk.{LineWalk}
 use Rattle.step_reducer.specs.declared.walk.Walk.{Walk}
 use Rattle.step_reducer.specs.declared.walk.Walk.TheVariants.{Words, Lines}
-use Rattle.step_reducer.specs.Framed.{standing}
 use Rattle.step_reducer.specs.Fronts.{line_before, new_steps, sent_by, most_steps}
-use Rattle.step_reducer.specs.Walks.{AllHave, LiesBehind, IsWalk, Follows}
+use Rattle.step_reducer.specs.Walks.{AllHave, RunsOne, IsWalk, Follows}
 use Rattle.step_reducer.specs.Lines.{IsLines}
 
 -- a shard's first rank, the next one and the end, the steps sent for the ranks given, whether no run was given in part, and whether memory was refused
@@ -93,21 +92,6 @@ abbrev pub walk_told : Walk → List (List (List Event))
 walk_told (Words w) = w.stack.told
 walk_told (Lines w) = w.path.world.told
 
--- the world that a walk stands in
-abbrev pub standing_in : Walk → Running
-standing_in (Words w) = w.stack.top.world
-standing_in (Lines w) = standing w.path.world
-
--- whether the machine stands in the walk's world
-abbrev pub walk_level : Walk → Bool
-walk_level (Words w) = w.stack.level
-walk_level (Lines w) = w.path.world.level
-
--- the walk with its machine there, or behind
-abbrev pub leveled : Bool → Walk → Walk
-leveled level (Words w) = Words (record w { stack = record w.stack { level = level } })
-leveled level (Lines w) = Lines (record w { path = record w.path { world = record w.path.world { level = level } } })
-
 -- a walk of the spec's words from the first rank up to the end
 pub record IsWords (file : SpecFile) (reduce : Bool) (first end : ℕ) (w : WordWalk) : Type 0 where
   pub walk : IsWalk file w
@@ -154,7 +138,7 @@ pub record HasMoved (file : SpecFile) (reduce : Bool) (end : ℕ) (x : Walk) (gi
   pub one : skips reduce file.run ≡ false → given.run.end ≡ given.run.first + 1
   pub at : walk_at y ≡ given.run.end
   pub facts : AllHave reduce file.run given.run.first given.run.end given.run.fact
-  pub ran : LiesBehind file.run given.run.first given.run.end given.run.fact (standing_in y).world
+  pub ran : RunsOne given.run.first given.run.end given.run.fact
 
 -- a walk from the first rank up to the end has moved, with the steps sent for that
 pub record HasWalked (file : SpecFile) (reduce : Bool) (first end : ℕ) (x : Walk) (given : Giving) (y : Walk) : Type 0 where

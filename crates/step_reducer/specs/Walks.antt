@@ -4,13 +4,13 @@ use Rattle.perm_ranks.specs.Words.{Word, total}
 use Rattle.perm_ranks.specs.Blocks.{Block, HasRank, end_of, narrowed}
 use Rattle.spec_reader.specs.declared.TheConstants.{MAX_ITEMS}
 use Rattle.bound_specs.specs.Spec.{Spec, SpecFile, counts_of, queues_of}
-use Rattle.machine_model.specs.World.{World, send}
+use Rattle.machine_model.specs.World.{send}
 use Rattle.rank_facts.specs.Facts.{IsFactOf}
 use Rattle.rank_facts.specs.declared.fact.Fact.{Fact}
 use Rattle.rank_facts.specs.declared.fact.Fact.TheVariants.{Ran}
 use Rattle.events.specs.declared.event.Event.{Event}
 use Rattle.step_reducer.specs.Fronts.{new_steps, most_steps}
-use Rattle.step_reducer.specs.Reduced.{tour_of, line_world, IsTour, IsPlace}
+use Rattle.step_reducer.specs.Reduced.{tour_of, IsTour, IsPlace}
 use Rattle.step_reducer.specs.Framed.{Framed, Stacked}
 use Rattle.step_reducer.specs.declared.frame.Turn.{Turn}
 use Rattle.step_reducer.specs.Saying.{Finding, Giving}
@@ -20,10 +20,9 @@ use Rattle.step_reducer.specs.declared.word_walk.WordWalk.{WordWalk}
 abbrev pub AllHave : Bool → Spec → ℕ → ℕ → Fact → Type 0
 AllHave reduce spec first end fact = (rank : ℕ) → first ≤ rank → rank < end → IsFactOf reduce spec rank fact
 
--- where the fact of these ranks is an outcome, it is that of one rank, and the world is the one behind its line
-pub record LiesBehind (spec : Spec) (first end : ℕ) (fact : Fact) (world : World) : Type 0 where
-  pub one : (o : List (List Event)) → fact ≡ Ran o → end ≡ first + 1
-  pub world_is : (o : List (List Event)) → fact ≡ Ran o → world ≡ line_world spec first
+-- where the fact of these ranks is an outcome, it is that of one rank
+abbrev pub RunsOne : ℕ → ℕ → Fact → Type 0
+RunsOne first end fact = (o : List (List Event)) → fact ≡ Ran o → end ≡ first + 1
 
 -- the frame stands at these letters
 abbrev pub StandsAt : Bool → Spec → Word → Framed → Type 0
@@ -154,5 +153,5 @@ pub record HasGiven (file : SpecFile) (end : ℕ) (x : WordWalk) (given : Giving
   pub sent_few : given.sent ≤ MAX_ITEMS
   pub most : given.sent ≤ most_steps file.run given.run.first given.run.fact
   pub one : x.reduce ≡ false → given.run.end ≡ given.run.first + 1
-  pub ran : LiesBehind file.run given.run.first given.run.end given.run.fact y.stack.top.world.world
+  pub ran : RunsOne given.run.first given.run.end given.run.fact
   pub sent : (first : ℕ) → x.reduce ≡ false → Follows file.run first x → (given.sent ≡ new_steps file.run first (x.at - first)) × Follows file.run first y

@@ -12,9 +12,8 @@ ghost use Rattle.step_reducer.specs.Walks.{IsFrame, IsStack, IsAt, IsTurn, HasGo
 
 use crate::frame::{Frame, Turn, is_listed, turn_of};
 use crate::step_table::StepTable;
-use crate::worlds::{mark, outcome, send, settle};
+use crate::worlds::{mark, outcome, send};
 use known_worlds::KnownWorld;
-use marked_worlds::MarkedWorld;
 use perm_ranks::Block;
 use std::alloc::{AllocError, Global};
 use std::marker::Model;
@@ -84,16 +83,6 @@ impl<'a> Stack<'a> {
             world: start,
         }
     }
-
-    /// The world behind the longest prefix, where the machine stands in it.
-    pub(crate) fn world(&self) -> &MarkedWorld<'a>
-        requires { self.now.level ≡ true }
-        ensures world { result.now.world ≡ self.now.top.world.world }
-        ensures of_spec { result.now.file ≡ self.now.top.world.file }
-        ensures whole { result.now.spent ≡ false }
-    {
-        self.world.machine()
-    }
 }
 
 impl Stack<'_> {
@@ -134,15 +123,6 @@ impl Stack<'_> {
         ensures same { self.new ≡ record self.old { level = self.new.level } }
     {
         turn_of(&self.top, &mut self.world, table, reduce, rank)
-    }
-
-    /// Sees to it that the machine stands in the world behind the longest prefix.
-    pub(crate) fn settle(&mut self) -> Result<(), AllocError>
-        requires { self.old.top.world.spent ≡ false }
-        ensures level { OnOk result (self.new.level ≡ true) }
-        ensures same { self.new ≡ record self.old { level = self.new.level } }
-    {
-        settle(&mut self.world)
     }
 
     /// Tells what was told up to the end of the longest prefix: the answer is its number among the outcomes that were told.

@@ -1,19 +1,18 @@
 //! A walk of words or of lines.
 
 ghost use mathlib.Core.List.{IsPrefix};
-ghost use Rattle.std.specs.Prelude.{◌≡◌, ℕ, ◌<◌, ◌≤◌, IfErr, IfOk, OnOk, Some, [], false, true, length, slice_get};
+ghost use Rattle.std.specs.Prelude.{◌≡◌, ℕ, ◌<◌, ◌≤◌, IfErr, IfOk, OnOk, Some, [], length, slice_get};
 ghost use Rattle.bound_specs.specs.Spec.{ranks};
 ghost use Rattle.machine_model.specs.Start.{start};
 ghost use Rattle.session_steps.specs.Refused.{IsRefusedBy};
 ghost use Rattle.step_reducer.specs.Saying.{IsTold, giving_of};
-ghost use Rattle.step_reducer.specs.Walking.{walk_at, walk_end, walk_level, walk_told, leveled, moved_to, standing_in, IsGoing, IsWalkOf, HasMoved, HasWalked, Starts};
+ghost use Rattle.step_reducer.specs.Walking.{walk_at, walk_end, walk_told, moved_to, IsGoing, IsWalkOf, HasMoved, HasWalked, Starts};
 
 use crate::fact::Given;
 use crate::line_walk::LineWalk;
 use crate::word_walk::WordWalk;
 use bound_specs::Spec;
 use known_worlds::KnownWorld;
-use marked_worlds::MarkedWorld;
 use session_steps::StartError;
 use std::alloc::{AllocError, Global};
 use transcripts::Outcome;
@@ -84,31 +83,6 @@ impl<'a> Walk<'a> {
         match self {
             Walk::Words(walk) => walk.next_run(end),
             Walk::Lines(walk) => walk.next_run(),
-        }
-    }
-
-    /// Sees to it that the machine stands in the walk's world.
-    pub(crate) fn settle(&mut self) -> Result<(), AllocError>
-        requires { (standing_in self.old).spent ≡ false }
-        ensures level { OnOk result (walk_level self.new ≡ true) }
-        ensures same { self.new ≡ leveled (walk_level self.new) self.old }
-    {
-        match self {
-            Walk::Words(walk) => walk.stack.settle(),
-            Walk::Lines(walk) => walk.path.settle(),
-        }
-    }
-
-    /// The world that the walk stands in, where the machine stands there. Where the rank given last was run, it is the world behind its line.
-    pub(crate) fn world(&self) -> &MarkedWorld<'a>
-        requires { walk_level self.now ≡ true }
-        ensures world { result.now.world ≡ (standing_in self.now).world }
-        ensures of_spec { result.now.file ≡ (standing_in self.now).file }
-        ensures whole { result.now.spent ≡ false }
-    {
-        match self {
-            Walk::Words(walk) => walk.stack.world(),
-            Walk::Lines(walk) => walk.path.world(),
         }
     }
 

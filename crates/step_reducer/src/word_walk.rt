@@ -8,7 +8,7 @@ ghost use Rattle.machine_model.specs.Start.{Started, start as begins};
 ghost use Rattle.step_reducer.specs.Saying.{IsTold, fact_of, finding_of, giving_of};
 ghost use Rattle.step_reducer.specs.Walking.{IsWords};
 ghost use Rattle.step_reducer.specs.Reduced.{tour_of, IsTour};
-ghost use Rattle.step_reducer.specs.Walks.{LiesBehind, IsAt, IsWalk, IsFound, HasSent, HasGiven};
+ghost use Rattle.step_reducer.specs.Walks.{RunsOne, IsAt, IsWalk, IsFound, HasSent, HasGiven};
 
 use crate::fact::Given;
 use crate::said::{Said, SaidRun};
@@ -139,7 +139,7 @@ fn find(
     ensures found { IfOk result (λ found. IsFound reduce stack.old.top.world.file at end (finding_of stack.new.told found)) }
     ensures has { OnOk result (IsAt reduce stack.old.top.world.file at all stack.new) }
     ensures sent { IfOk result (λ found. HasSent reduce stack.old.top.world.file.run at stack.old (finding_of stack.new.told found) stack.new) }
-    ensures ran { IfOk result (λ found. LiesBehind stack.old.top.world.file.run at found.end (fact_of stack.new.told found.said) stack.new.top.world.world) }
+    ensures ran { IfOk result (λ found. RunsOne at found.end (fact_of stack.new.told found.said)) }
     ensures number { IfOk result (λ found. IsTold stack.new.told found.said) }
     ensures front { IsPrefix stack.old.told stack.new.told }
 {

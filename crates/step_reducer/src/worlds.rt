@@ -1,7 +1,7 @@
 //! Calls on worlds that are not spent: only memory can be refused.
 
 ghost use mathlib.Core.List.{IsPrefix};
-ghost use Rattle.std.specs.Prelude.{◌≡◌, ◌<◌, ◌∷◌, false, true, length, slice_get, IfOk, OnErr, OnOk, Some};
+ghost use Rattle.std.specs.Prelude.{◌≡◌, ◌<◌, ◌∷◌, false, length, slice_get, IfOk, OnErr, OnOk, Some};
 ghost use Rattle.machine_model.specs.World.{send as world_sent, outcome_of};
 
 use known_worlds::KnownWorld;
@@ -47,19 +47,6 @@ pub(crate) fn outcome(world: &mut KnownWorld<'_>) -> Result<usize, AllocError>
 {
     match world.outcome() {
         Ok(number) => Ok(number),
-        Err(SendError::NoMemory) => Err(AllocError),
-        Err(SendError::Spent) => unreachable!(),
-    }
-}
-
-/// Sees to it that the machine stands in the world, which stays as it is.
-pub(crate) fn settle(world: &mut KnownWorld<'_>) -> Result<(), AllocError>
-    requires { world.old.spent ≡ false }
-    ensures level { OnOk result (world.new.level ≡ true) }
-    ensures same { world.new ≡ record world.old { level = world.new.level } }
-{
-    match world.catch_up() {
-        Ok(()) => Ok(()),
         Err(SendError::NoMemory) => Err(AllocError),
         Err(SendError::Spent) => unreachable!(),
     }

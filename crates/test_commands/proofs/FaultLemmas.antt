@@ -29,7 +29,7 @@ all-asked : (wanted : WantedClasses) → WantsAll wanted → (file : SpecFile) (
 all-asked wanted all file tables asked.NoMemory h = tt
 all-asked wanted all file tables error h =
     ⊎_elim (λ first. none-first _ _ wanted.filters.items error all.every first)
-    (λ rest. ⊎_elim (λ looks. none-first _ _ wanted.looks.items error all.looks looks.1)
+    (λ rest. ⊎_elim (λ looks. none-first _ _ wanted.queries.items error all.looks looks.1)
     (λ expectations. none-first _ _ wanted.expectations.items error all.expectations expectations.1) rest) h
 
 pub not-tested : {W : Type 0} (contents : W → Option (List ℕ)) (old new : Counted W) (bytes name : List ℕ) (wanted : WantedClasses) → WantsAll wanted
@@ -38,6 +38,6 @@ not-tested contents old new bytes name wanted all (fault.Spec error) h known = h
 not-tested contents old new bytes name wanted all (fault.Asked asked.NoMemory) h known = tt
 not-tested contents old new bytes name wanted all (fault.Asked error) h known = all-asked wanted all h.1.0 h.1.2.0 error h.1.2.2
 not-tested contents old new bytes name wanted all (fault.Run error) h known = (wanted, all, h.1)
-not-tested contents old new bytes name wanted all (fault.TooMany noted) h known = tt
+not-tested contents old new bytes name wanted all (fault.TooMany noted) h known = (wanted, all, h.1)
 not-tested contents old new bytes name wanted all fault.NoMemory h known = tt
 not-tested contents old new bytes name wanted all (fault.Write error) h known = tt

@@ -1,13 +1,13 @@
--- A spec beside the accepted text of its classes.
+-- A spec beside its accepted record.
 use Rattle.std.specs.Prelude.{◌≡◌, ◌≢◌, ◌⊎◌, ℕ, ◌<◌, ◌++◌, ◌∷◌, true, false, All, List, [], length, get_or, Option, None, IfSome}
 use Rattle.book_commands.specs.Joining.{Files}
 use Rattle.wanted_classes.specs.declared.wanted.WantedClasses.{WantedClasses}
-use Rattle.wanted_classes.specs.declared.wanted.WantedForm.TheVariants.{Text}
+use Rattle.wanted_classes.specs.declared.wanted.WantedForm.TheVariants.{Record}
 use Rattle.asked_classes.specs.declared.fault.AskedFault.TheVariants as asked
 use Rattle.class_commands.specs.declared.classing.ClassesFault.{ClassesFault}
 use Rattle.class_commands.specs.declared.classing.ClassesFault.TheVariants as fault
 use Rattle.spec_binding.specs.SpecFiles.{IsNoSpec}
-use Rattle.class_commands.specs.Classing.{IsTellingOf, IsNotAsked, IsNotRun}
+use Rattle.class_commands.specs.Classing.{IsTellingOf, IsNotAsked, IsNotExplored, IsNotRun}
 use Rattle.test_commands.specs.declared.listing.TheConstants.{MAX_SPECS}
 use Rattle.test_commands.specs.declared.listing.SpecsFault.{SpecsFault}
 use Rattle.test_commands.specs.declared.listing.SpecsFault.TheVariants.{NoneIn, TooMany}
@@ -18,18 +18,16 @@ use Rattle.test_commands.specs.declared.testing.Verdict.TheVariants.{Same, Other
 use Rattle.test_commands.specs.declared.testing.TestFault.{TestFault}
 use Rattle.test_commands.specs.declared.testing.TestFault.TheVariants.{Classes, Accepted, NoMemory}
 
--- all orders by what they show are asked for, and all that is told of a class, as text
+-- the record of the results of all orders that clients can send
 pub record WantsAll (wanted : WantedClasses) : Type 0 where
-  pub shows : wanted.answers ≡ false
+  pub sent : wanted.all_orders ≡ false
+  pub results : wanted.by_result ≡ true
   pub every : wanted.filters.items ≡ []
-  pub looks : wanted.looks.items ≡ []
+  pub looks : wanted.queries.items ≡ []
   pub expectations : wanted.expectations.items ≡ []
-  pub whole : wanted.brief ≡ false
-  pub outcomes : wanted.outcomes ≡ true
-  pub left : wanted.left ≡ true
-  pub as_text : wanted.form ≡ Text
+  pub as_record : wanted.form ≡ Record
 
--- the text tells all of the classes of the spec file that the bytes are, under a name
+-- the text is the record of the spec file that the bytes are, under a name
 abbrev pub IsText : List ℕ → List ℕ → List ℕ → Type 0
 IsText bytes name text = (wanted : WantedClasses) × WantsAll wanted × IsTellingOf bytes name wanted text
 
@@ -51,7 +49,8 @@ IsNotTested known bytes name (Classes (fault.Asked asked.NoMemory)) = Unit {0}
 IsNotTested known bytes name (Classes (fault.Asked error)) = ⊥
 IsNotTested known bytes name (Classes (fault.Run error)) =
     (wanted : WantedClasses) × WantsAll wanted × IsNotAsked bytes wanted (λ file tables. IsNotRun file tables wanted error)
-IsNotTested known bytes name (Classes (fault.TooMany noted)) = Unit {0}
+IsNotTested known bytes name (Classes (fault.TooMany noted)) =
+    (wanted : WantedClasses) × WantsAll wanted × IsNotAsked bytes wanted (λ file tables. IsNotExplored file tables wanted)
 IsNotTested known bytes name (Classes fault.NoMemory) = ⊥
 IsNotTested known bytes name (Classes (fault.Write error)) = ⊥
 IsNotTested known bytes name Accepted = known ≡ None

@@ -14,7 +14,7 @@ pub struct Entry {
     pub is_folder: bool,
 }
 
-/// Files and folders from which specs and accepted texts are read, and to which accepted texts are written.
+/// Files and folders from which specs and accepted records are read, and to which accepted records are written.
 pub trait Folder: Opener {
     /// What lies in the folder at a path, in any order; names that are no UTF-8 and links to folders are left out. `None` where it is no folder, or is
     /// not read to its end. A file whose bytes are known is no folder.

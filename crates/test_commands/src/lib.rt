@@ -1,4 +1,4 @@
-//! Specs beside the accepted texts of their classes.
+//! Specs beside the accepted records of their classes.
 #![tactic(auto)]
 
 mod folder;

@@ -1,4 +1,4 @@
-//! One spec beside the accepted text of its classes.
+//! One spec beside its accepted record.
 
 ghost use Rattle.std.specs.Prelude.{◌≡◌, ℕ, IfErr, IfOk, List, None, Option, Some, true};
 ghost use Rattle.test_commands.specs.Testing.{IsNotTested, IsTested, IsText, IsVerdict, WantsAll, told_as};
@@ -8,20 +8,20 @@ use class_commands::{ClassesFault, classes};
 use schedule_counts::Unwatched;
 use std::alloc::Global;
 use transcripts::{Counted, ReadError};
-use wanted_classes::{WantedClasses, WantedForm};
+use wanted_classes::{DEFAULT_MEMORY, WantedClasses, WantedForm};
 
-/// The bytes of an accepted text that are read, at most, but that one byte more is read than the text has with which it is compared.
+/// The bytes of an accepted record that are read, at most, but that one byte more is read than the text has with which it is compared.
 pub const MAX_ACCEPTED: usize = 67_108_864;
 
 /// A spec that is tested.
 #[derive(Drop)]
 pub struct Tested {
-    /// The text of its classes.
+    /// Its record.
     pub text: Vec<u8>,
     pub verdict: Verdict,
 }
 
-/// What the accepted text of a spec is, beside that of its classes.
+/// What the accepted record of a spec is, beside that of today.
 #[derive(Drop)]
 pub enum Verdict {
     /// The same, byte for byte.
@@ -35,15 +35,15 @@ pub enum Verdict {
 /// Why a spec is not tested.
 #[derive(Clone, Copy, Drop)]
 pub enum TestFault {
-    /// Its classes are not told.
+    /// It has no record.
     Classes(ClassesFault<'static>),
-    /// The accepted text is not read.
+    /// The accepted record is not read.
     Accepted,
     /// Memory ran out.
     NoMemory,
 }
 
-/// Tells the classes of the spec file that bytes are, with what each has, under a name, and compares their text with the accepted one.
+/// Makes the record of the spec file that bytes are, under a name, and compares it with the accepted one.
 pub fn test_spec<O: Opener>(
     alloc: Global,
     opener: &O,
@@ -64,7 +64,7 @@ pub fn test_spec<O: Opener>(
     }
 }
 
-/// The text of the classes of the spec file that bytes are.
+/// The record of the spec file that bytes are.
 fn text_of(alloc: Global, bytes: &[u8], name: &str) -> Result<Vec<u8>, TestFault>
     ensures text { IfOk result (λ text. IsText bytes.now name.now text.items) }
     ensures refused { IfErr result (λ fault. (known : Option (List ℕ)) → IsNotTested known bytes.now name.now fault) }
@@ -90,19 +90,21 @@ fn told_as(fault: ClassesFault<'static>) -> TestFault
     }
 }
 
-/// The classes of all orders, with what the first order of each tells, and what it leaves.
+/// The record of the results of the orders that clients can send.
 fn all_of_classes(alloc: Global) -> WantedClasses<'static>
     ensures { WantsAll result }
 {
     WantedClasses {
-        answers: false,
+        all_orders: false,
+        memory: DEFAULT_MEMORY,
+        by_result: true,
         filters: Vec::new(alloc),
-        looks: Vec::new(alloc),
+        queries: Vec::new(alloc),
         expectations: Vec::new(alloc),
         brief: false,
-        outcomes: true,
-        left: true,
-        form: WantedForm::Text,
+        outcomes: false,
+        final_rows: false,
+        form: WantedForm::Record,
     }
 }
 

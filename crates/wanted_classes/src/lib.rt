@@ -4,5 +4,6 @@
 mod wanted;
 
 pub use wanted::{
-    WantedClasses, WantedExpectation, WantedFilter, WantedForm, WantedOutcomes, WantedTest,
+    DEFAULT_MEMORY, WantedClasses, WantedExpectation, WantedFilter, WantedForm, WantedOutcomes,
+    WantedTest,
 };

@@ -5,18 +5,18 @@
 pub enum WantedTest<'a> {
     /// A session waits.
     Waits,
-    /// A session loses a deadlock.
+    /// A session is the victim of a deadlock.
     Deadlock,
-    /// The session of this name loses a deadlock.
+    /// The session of this name is the victim of a deadlock.
     DeadlockOf(&'a str),
-    /// A session is told of another error of its own.
+    /// A session fails with another error.
     Error,
     /// A step is not sent, since its session waits.
-    Unsent,
-    /// A session still waits at the end.
+    NotSent,
+    /// A session waits for ever.
     Stuck,
-    /// It is an anomaly: every session is through, and yet no serial order answers so.
-    NotSerial,
+    /// It is an anomaly: every session succeeds, and yet no serial order gives this result.
+    Anomaly,
 }
 
 /// Which orders are asked for: those that pass a test, or those that do not.
@@ -26,7 +26,7 @@ pub struct WantedFilter<'a> {
     pub wanted: bool,
 }
 
-/// What is expected of orders: that a SELECT sees one row of what they leave, with these values.
+/// What is expected of orders: that a SELECT on their final rows returns one row, with these values.
 #[derive(Drop)]
 pub struct WantedExpectation<'a> {
     pub select: &'a str,
@@ -41,26 +41,35 @@ pub enum WantedForm {
     Json,
     /// A page that is opened in a browser.
     Html,
+    /// The record that `test` keeps beside a spec and compares.
+    Record,
 }
+
+/// The states of a spec may take so many megabytes where no other number is wanted.
+pub const DEFAULT_MEMORY: u64 = 2_000;
 
 /// What is wanted of the classes of a spec.
 #[derive(Drop)]
 pub struct WantedClasses<'a> {
-    /// Orders are grouped by what they answer, and not by all that they show.
-    pub answers: bool,
+    /// All permutations are counted, and not only the orders that clients can send.
+    pub all_orders: bool,
+    /// Orders are grouped by their result alone: by rows, counts, errors and final rows, whoever waited.
+    pub by_result: bool,
     /// An order is asked for where it passes all of these.
     pub filters: Vec<WantedFilter<'a>>,
-    /// What SELECTs see of what each class leaves is told.
-    pub looks: Vec<&'a str>,
+    /// These SELECTs are run on the final rows of each class.
+    pub queries: Vec<&'a str>,
     /// This is expected of each order that is asked for.
     pub expectations: Vec<WantedExpectation<'a>>,
     /// The totals alone are told.
     pub brief: bool,
-    /// With what the least order of each class tells each session.
+    /// With what each session receives in the first order of each class.
     pub outcomes: bool,
-    /// With what each class leaves.
-    pub left: bool,
+    /// With the final rows of each class.
+    pub final_rows: bool,
     pub form: WantedForm,
+    /// So many megabytes may be taken by states.
+    pub memory: u64,
 }
 
 /// What is wanted of the classes of what books tell.
@@ -70,7 +79,7 @@ pub struct WantedOutcomes {
     pub brief: bool,
     /// With the ranks of each class.
     pub ranks: bool,
-    /// With what the least order of each class tells each session.
+    /// With what each session receives in the first order of each class.
     pub outcomes: bool,
     /// As JSON, and not as text.
     pub json: bool,

@@ -1,4 +1,4 @@
-use Rattle.std.proofs.Common.{◌∙◌, sym, subst, length, map}
+use Rattle.std.proofs.Common.{subst, map}
 use Rattle.class_commands.specs.Booking.{IsBookText}
 use Rattle.class_commands.specs.BookParts.{WritesBook}
 use Rattle.class_commands.proofs.BookLemmas.{books-run, books-not-found}

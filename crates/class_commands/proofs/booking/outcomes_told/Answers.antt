@@ -1,4 +1,4 @@
-use Rattle.std.proofs.Common.{◌∙◌, [], false, map, subst}
+use Rattle.std.proofs.Common.{◌∙◌, [], false, subst}
 use Rattle.class_texts.specs.Pages.{Page}
 use Rattle.class_texts.specs.declared.kind.ClassKind.TheVariants.{Outcomes}
 use Rattle.class_commands.specs.Written.{IsWritten, written_bytes}
@@ -10,24 +10,31 @@ returns c =
     let classes = c.args.found.now.classes in (
       c.in_ok-ranks.ranks.items,
       c.in_ok-ranks.ensures,
-      subst (λ (p : Page). IsWritten c.args.wanted.now.json spec.text spec p (written_bytes c.in_ok-written.written))
-          (λ k. let p : Page = record {
-            path = (c.as_str.ensures.value ∙ c.in_ok-name.ensures) k;
-            orders = c.ranks.ensures k;
-            sessions = c.session_names.ensures.are k;
-            steps = c.step_names.ensures.are k;
-            tables = [];
-            by = Outcomes;
-            is_filtered = c.is_some.ensures k;
-            missing = classes.missing;
-            expectations = [];
-            totals = classes.totals;
-            rows = c.as_slice.ensures.value k;
-            is_brief = c.args.wanted.now.brief;
-            with_ranks = c.args.wanted.now.ranks;
-            ranks = c.as_slice-2.ensures.value k;
-            with_outcomes = c.args.wanted.now.outcomes;
-            with_left = false;
-            looks = [];
-          } in p) c.in_ok-written.ensures,
+      (
+        c.in_ok-levels.levels.items,
+        c.in_ok-levels.ensures,
+        subst (λ (p : Page). IsWritten c.args.wanted.now.json spec.text spec p (written_bytes c.in_ok-written.written))
+            (λ k. let p : Page = record {
+              path = (c.as_str.ensures.value ∙ c.in_ok-name.ensures) k;
+              orders = c.ranks.ensures k;
+              all_orders = false;
+              sessions = c.session_names.ensures.are k;
+              steps = c.step_names.ensures.are k;
+              tables = [];
+              by = Outcomes;
+              is_filtered = c.is_some.ensures k;
+              filters = [];
+              missing = classes.missing;
+              level_lines = c.as_slice.ensures.value k;
+              expectations = [];
+              totals = classes.totals;
+              rows = c.as_slice-2.ensures.value k;
+              is_brief = c.args.wanted.now.brief;
+              with_ranks = c.args.wanted.now.ranks;
+              ranks = c.as_slice-3.ensures.value k;
+              with_outcomes = c.args.wanted.now.outcomes;
+              with_left = false;
+              looks = [];
+            } in p) c.in_ok-written.ensures,
+      ),
     )

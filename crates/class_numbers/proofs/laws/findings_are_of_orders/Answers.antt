@@ -1,4 +1,4 @@
-use Rattle.spec_schedules.specs.declared.kind.Kind.TheVariants.{Permutations}
+use Rattle.class_commands.specs.Classing.{kind_by}
 use Rattle.class_commands.specs.Classing.{IsMet, grouping}
 use Rattle.class_numbers.specs.Numbers.{AreAsExpected}
 use Rattle.class_numbers.proofs.ExpectedLemmas.{asked-same, met-of-orders}
@@ -8,9 +8,9 @@ pub returns : goal.returns
 returns c = λ bytes path wanted text t finding found.
     let filters = t.asked.filters.items in
     let met =
-    met-of-orders Permutations t.tables t.file.run filters (grouping wanted.answers) t.classed t.are c.expectations_are_seen.ensures in
+    met-of-orders (kind_by wanted.all_orders) t.tables t.file.run filters (grouping wanted.by_result) t.classed t.are c.expectations_are_seen.ensures in
     let rows = IsMet t.classed.rows.items in
-    let orders = AreAsExpected Permutations t.tables t.file.run filters in (
+    let orders = AreAsExpected (kind_by wanted.all_orders) t.tables t.file.run filters in (
       λ good. asked-same t.tables rows orders (λ e look. (met e look).0) wanted.expectations.items t.asked.expectations.items t.is_asked.expectations
           (found.0 good),
       λ all. found.1

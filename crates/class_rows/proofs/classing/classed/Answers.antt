@@ -1,4 +1,7 @@
 use Rattle.std.proofs.Common.{sym, ◌∙◌, subst, ◌<◌, ◌^◌, arith}
+use Rattle.order_classes.specs.Numbers.{IsNumberOf}
+use Rattle.order_classes.specs.declared.shows.Shows.{Shows}
+use Rattle.spec_classes.specs.Classes.{ShowsAt}
 use Rattle.class_rows.specs.Telling.{has_letter, orders_with, totals_by, AreAdded, AreRowsOf}
 use Rattle.class_rows.proofs.Passes.{passing-added}
 use Rattle.class_rows.proofs.Told.{all-told, orders-few}
@@ -35,5 +38,10 @@ returns c =
     let rows = c.in_ok-rows.ensures kind tables run (subst (AreAdded kind tables run) (sym value) added) in
     let totals = c.totals_of-totals.ensures ∙ (λ i. totals_by run (c.as_slice-2.ensures.value i) (c.as_slice-3.ensures.value i)) in
     all-told kind tables run filters by found.classes.now c.requires.classes ps passing added rows.0
-    (record { totals = c.totals_of-totals.result; rows = c.in_ok-rows.rows })
+    (record { orders = c.orders_of.result; totals = c.totals_of-totals.result; rows = c.in_ok-rows.rows })
+    (subst (IsNumberOf (λ rank. (s : Shows) × ShowsAt kind tables run rank s)) (sym c.orders_of.ensures)
+    (c.counts_add_up.ensures kind tables run found.classes.now c.requires.classes))
     (subst (λ qs. AreRowsOf kind tables run by qs rows.0 c.in_ok-rows.rows.items) value rows.1) totals
+
+pub orders_of-requires : goal.orders_of-requires
+orders_of-requires c = c.requires.classes.few

@@ -12,7 +12,7 @@ returns c =
     let page = c.args.page.now in
     let old = c.args.out.now.items in
     let named = c.in_ok-push_word.ensures ∙ ap (λ word. old ++ (codes ",\"by\":" ++ word)) c.by_word.ensures in
-    three c.push_asked.result old (codes ",\"by\":" ++ by_json page.by) (codes ",\"totals\":" ++ totals_json page.by page.totals) (asked_json page) _
+    three c.push_asked.result old (codes ",\"by\":" ++ by_json page.by) (codes ",\"totals\":" ++ totals_json page.by page.all_orders page.totals) (asked_json page) _
     (subst (λ (p : Page). c.push_word.new.out.items ≡ old ++ (codes ",\"by\":" ++ by_json p.by)) c.page.view_is named)
-    (subst (λ (p : Page). c.push_totals.new.out.items ≡ c.push_word.new.out.items ++ (codes ",\"totals\":" ++ totals_json p.by p.totals))
+    (subst (λ (p : Page). c.push_totals.new.out.items ≡ c.push_word.new.out.items ++ (codes ",\"totals\":" ++ totals_json p.by p.all_orders p.totals))
     c.page.view_is c.in_ok-push_totals.ensures) c.push_asked.ensures

@@ -5,4 +5,4 @@ use Rattle.class_values.proofs.totals.push_letters.Given as goal
 
 -- the first letters are pushed
 abbrev pub invariant-loop-place : goal.invariant-loop-place
-invariant-loop-place l = l.out.items ≡ l.fn.out.items ++ join_by (letter_json l.by l.totals) (codes ",") (take l.place l.letters)
+invariant-loop-place l = l.out.items ≡ l.fn.out.items ++ join_by (letter_json l.by l.all_orders l.totals) (codes ",") (take l.place l.letters)

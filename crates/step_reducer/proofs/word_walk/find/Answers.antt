@@ -5,14 +5,14 @@ use Rattle.perm_ranks.specs.Words.{total, all_words}
 use Rattle.perm_ranks.specs.Blocks.{HasRank, end_of}
 use Rattle.perm_ranks.proofs.CountLemmas.{length-all_words}
 use Rattle.bound_specs.specs.Spec.{Spec, SpecFile}
-use Rattle.machine_model.specs.World.{World, send, outcome_of}
+use Rattle.machine_model.specs.World.{send, outcome_of}
 use Rattle.rank_facts.specs.Facts.{IsFactOf}
 use Rattle.rank_facts.specs.declared.fact.Fact.TheVariants.{Ran, Swap}
 use Rattle.events.specs.declared.event.Event.{Event}
-use Rattle.step_reducer.specs.Reduced.{tour_of, line_world}
+use Rattle.step_reducer.specs.Reduced.{tour_of}
 use Rattle.step_reducer.specs.Framed.{Stacked}
-use Rattle.step_reducer.specs.Walks.{LiesBehind, IsAt}
-use Rattle.step_reducer.proofs.FactsAt.{swap-within, swap-all, ran-at, world-at}
+use Rattle.step_reducer.specs.Walks.{RunsOne, IsAt}
+use Rattle.step_reducer.proofs.FactsAt.{swap-within, swap-all, ran-at}
 use Rattle.step_reducer.proofs.Partings.{line-length}
 use Rattle.step_reducer.proofs.Stacks.{at-told}
 use Rattle.step_reducer.proofs.Turns.{turn-place}
@@ -23,8 +23,8 @@ reduces : (reduce : Bool) (spec : Spec) (r k : ℕ) → IsFactOf reduce spec r (
 reduces reduce spec r k fact e = (let bad : false ≡ true = sym e ∙ fact.0 in cc)
 
 -- and nothing was run for it
-not-run : (spec : Spec) (first end k : ℕ) (world : World) → LiesBehind spec first end (Swap k) world
-not-run spec first end k world = record { one = λ o e. not-ran k o e; world_is = λ o e. not-ran k o e }
+not-run : (first end k : ℕ) → RunsOne first end (Swap k)
+not-run first end k o e = not-ran k o e
   where
     not-ran : {A : Type 0} (k : ℕ) (o : List (List Event)) → Swap k ≡ Ran o → A
     not-ran k o e = cc
@@ -35,10 +35,10 @@ turned : (reduce : Bool) (file : SpecFile) (at end : ℕ) (x y : Stacked) → y 
 turned reduce file at end x y same is = subst (IsAt reduce file at end) (sym same) (at-told reduce file at end x x.told y.level is)
 
 pub returns-then-is_swap-clause-ran : goal.returns-then-is_swap-clause-ran
-returns-then-is_swap-clause-ran c = not-run _ _ _ _ _
+returns-then-is_swap-clause-ran c = not-run _ _ _
 
 pub returns-then-is_covered-clause-ran : goal.returns-then-is_covered-clause-ran
-returns-then-is_covered-clause-ran c = not-run _ _ _ _ _
+returns-then-is_covered-clause-ran c = not-run _ _ _
 
 pub returns-then-is_swap-clause-found : goal.returns-then-is_swap-clause-found
 returns-then-is_swap-clause-found c =
@@ -164,21 +164,7 @@ returns-clause-sent c =
     }
 
 pub returns-clause-ran : goal.returns-clause-ran
-returns-clause-ran c =
-    let file = c.args.stack.now.top.world.file in
-    let top = c.letter.stack.top in
-    let frame = c.letter.invariant.at.stack.top.frame in
-    let has = c.letter.invariant.at.has in
-    let none : total top.block.left ≡ 0 = omega (arith, c.letter-test.false, c.letters_left.ensures.all) in
-    let one : length (all_words top.block.left) ≡ 1 = length-all_words top.block.left 0 none in
-    let from = has.0 in
-    let to = has.1 in
-    let same : top.block.first ≡ c.args.at = omega (arith, one, from, to) in
-    record {
-      one = λ o e. refl;
-      world_is = λ o e. ap (λ (s : Stacked). s.top.world.world) c.in_ok-number.ensures.same ∙ subst (λ n. top.world.world ≡ line_world file.run n) same
-          (world-at (tour_of file.run c.args.reduce) frame.shared top.block top.world.world top.swaps c.requires.tour frame.stands none);
-    }
+returns-clause-ran c o e = refl
 
 pub letter-smaller : goal.letter-smaller
 letter-smaller c =

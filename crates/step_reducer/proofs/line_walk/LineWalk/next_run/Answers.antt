@@ -9,7 +9,7 @@ use Rattle.known_worlds.specs.Paths.{first_world}
 use Rattle.known_worlds.proofs.FrontLemmas.{front-new}
 use Rattle.known_worlds.specs.declared.path.MarkedPath.{MarkedPath}
 use Rattle.known_worlds.specs.Paths.{IsPath}
-use Rattle.known_worlds.proofs.PathLemmas.{path-own, path-told, path-told-more, path-world}
+use Rattle.known_worlds.proofs.PathLemmas.{path-own, path-told, path-told-more}
 use Rattle.step_reducer.proofs.Firsts.{line-fact, line-ran}
 use Rattle.step_reducer.proofs.line_walk.LineWalk.next_run.Goals as goal
 
@@ -58,10 +58,7 @@ returns-clause-given c =
           subst (λ m. IsFactOf reduce run m (Ran said)) (sym here)
           (line-fact reduce run x.at line said c.requires.lines c.requires.inside line_is
           (line-ran run line c.requires.walk.starts ∙ ap (λ o. Some o) told)));
-      ran = record {
-        one = λ o e. refl;
-        world_is = λ o e. path-world file y path ∙ ap (λ ks. send_all run.steps (first_world run) ks) (goes ∙ line_is);
-      };
+      ran = λ o e. refl;
     }
 
 pub returns-clause-number : goal.returns-clause-number

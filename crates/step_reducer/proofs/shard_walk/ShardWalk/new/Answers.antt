@@ -1,4 +1,4 @@
-use Rattle.std.proofs.Common.{◌≡◌, refl, subst, true, false}
+use Rattle.std.proofs.Common.{subst}
 use Rattle.bound_specs.specs.Spec.{ranks}
 use Rattle.step_reducer.specs.Walking.{IsWalkOf}
 use Rattle.step_reducer.proofs.Walkings.{going-of, all-ranks}
@@ -13,9 +13,6 @@ invariant_of-result c =
     let is : IsWalkOf file reduce first (ranks file.run) walk = subst (λ end. IsWalkOf file reduce first end walk) c.ranks.ensures c.in_ok-walk.ensures.walk in
     record {
       walk = λ whole. record { going = going-of file reduce first (ranks file.run) walk is; to = all-ranks file reduce first walk is; here = c.in_ok-walk.ensures.at };
-      none = λ spent. refl;
-      late = λ spent. refl;
-      level_is = λ level. absurd (let bad : false ≡ true = level in cc);
       order = c.in_ok-check.ensures.lawful.order;
       inside = c.in_ok-check.ensures.lawful.inside;
     }

@@ -1,7 +1,6 @@
-use Rattle.std.proofs.Common.{◌≡◌, refl, true, false, arith}
+use Rattle.std.proofs.Common.{false, arith}
 use Rattle.step_reducer.specs.Saying.{giving_of}
 use Rattle.step_reducer.specs.Walking.{walk_told}
-use Rattle.step_reducer.specs.Shardwise.{shown_by}
 use Rattle.step_reducer.proofs.Walkings.{onward-moved, part-given}
 use Rattle.step_reducer.proofs.shard_walk.ShardWalk.next_run.Goals as goal
 
@@ -20,9 +19,6 @@ invariant_of-self-2 c =
     let moved = c.in_ok-given.ensures.moved in
     record {
       walk = λ whole. onward-moved x.spec.now x.reduce x.at x.end x.walk (giving_of (walk_told c.next_run.new.self) c.in_ok-given.given) c.next_run.new.self (c.self.invariant.walk c.if-self.false) moved;
-      none = λ spent. absurd (let bad : false ≡ true = spent in cc);
-      late = λ spent. refl;
-      level_is = λ level. absurd (let bad : false ≡ true = level in cc);
       order = moved.few;
       inside = c.self.invariant.inside;
     }
@@ -30,5 +26,5 @@ invariant_of-self-2 c =
 pub returns-clause-run : goal.returns-clause-run
 returns-clause-run c =
     let x = c.self.inside in
-    part-given x.spec.now x.reduce x.at x.end (shown_by x.has_run x.walk) (walk_told x.walk) x.is_spent x.is_level c.was_run-was_run.result x.walk c.in_ok-given.given c.next_run.new.self
-    c.args.self.now (c.self.invariant.walk c.if-self.false) c.in_ok-given.ensures.moved (c.was_run-was_run.ensures (walk_told c.next_run.new.self)) c.if-self.false c.self.view_is
+    part-given x.spec.now x.reduce x.at x.end (walk_told x.walk) x.is_spent x.walk c.in_ok-given.given c.next_run.new.self c.args.self.now
+    (c.self.invariant.walk c.if-self.false) c.in_ok-given.ensures.moved c.if-self.false c.self.view_is

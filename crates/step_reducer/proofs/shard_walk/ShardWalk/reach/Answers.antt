@@ -1,4 +1,4 @@
-use Rattle.std.proofs.Common.{◌≡◌, refl, sym, ap, subst, ◌≤◌, true, false, arith}
+use Rattle.std.proofs.Common.{◌≡◌, sym, ap, subst, ◌≤◌, arith}
 use Rattle.bound_specs.specs.Spec.{SpecFile, ranks}
 use Rattle.step_reducer.specs.Shardwise.{Shardwise, IsOnward}
 use Rattle.step_reducer.proofs.Walkings.{onward-later}
@@ -14,9 +14,6 @@ invariant_of-self c =
     record {
       walk = λ whole. subst (IsOnward x.spec.now x.reduce rank) (sym c.reach.ensures)
           (onward-later x.spec.now x.reduce x.at rank x.walk later (c.self.invariant.walk whole));
-      none = λ spent. refl;
-      late = λ spent. refl;
-      level_is = λ level. absurd (let bad : false ≡ true = level in cc);
       order = c.requires.lawful.order;
       inside = subst (λ (f : SpecFile). c.args.shard.end ≤ ranks f.run) (sym file) c.requires.lawful.inside;
     }

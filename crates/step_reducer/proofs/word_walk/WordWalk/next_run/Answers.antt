@@ -6,7 +6,7 @@ use Rattle.bound_specs.specs.Spec.{SpecFile, counts_of, queues_of}
 use Rattle.step_reducer.specs.Reduced.{tour_of, IsTour}
 use Rattle.step_reducer.specs.Framed.{Stacked}
 use Rattle.step_reducer.specs.declared.word_walk.WordWalk.{WordWalk}
-use Rattle.step_reducer.specs.Walks.{LiesBehind, IsAt, IsFound, IsStack, IsBehind, HasSent}
+use Rattle.step_reducer.specs.Walks.{IsAt, IsFound, IsStack, IsBehind, HasSent}
 use Rattle.step_reducer.specs.Saying.{finding_of}
 use Rattle.step_reducer.proofs.Stacks.{stack-later}
 use Rattle.step_reducer.proofs.Sendings.{left-new}
@@ -84,8 +84,7 @@ returns-clause-given c =
       reduce = refl;
       most = sends.most;
       one = sends.one;
-      ran = subst (λ (f : SpecFile). LiesBehind f.run x.at says.end says.fact c.find.new.stack.top.world.world) same
-          c.in_ok-found.ensures.ran;
+      ran = c.in_ok-found.ensures.ran;
       sent = λ first run follows. (
           let one = sends.one run in
           let before : x.at < x.end = omega (arith, c.requires.some, c.requires.inside) in

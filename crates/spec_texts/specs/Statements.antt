@@ -1,0 +1,87 @@
+-- Statements that are read and have no effect, or have a part that has none.
+use Rattle.std.specs.Prelude.{ℕ, Bool, true, false, not, ◌||◌, is_some, List, [], map, filter, Option, Some, None, Result, Ok, Err}
+use Rattle.std.specs.List.{list_any, flat_map}
+use Rattle.sql_grammar.specs.Grammar.{Fault}
+use Rattle.sql_grammar.specs.Text.{StatementAt}
+use Rattle.sql_grammar.specs.Tree as tree
+use Rattle.sql_grammar.specs.Tree.{Chain, Last, More, Statement}
+use Rattle.sql_grammar.specs.declared.statement.Level.{Level}
+use Rattle.sql_grammar.specs.declared.statement.Level.TheVariants.{Serializable, RepeatableRead, Read}
+use Rattle.sql_grammar.specs.declared.statement.Property.{Property}
+use Rattle.sql_grammar.specs.declared.statement.Property.TheVariants.{PrimaryKey, NotNull}
+use Rattle.sql_grammar.specs.declared.statement.TablePart.{TablePart}
+use Rattle.sql_grammar.specs.declared.statement.TablePart.TheVariants.{Column, Key}
+use Rattle.spec_reader.specs.Tree.{BlockTree}
+use Rattle.bound_specs.specs.Binding.{offset_in, read_text}
+use Rattle.file_blocks.specs.Blocks.{SentTree}
+use Rattle.spec_texts.specs.declared.statements.IdleSql.{IdleSql}
+use Rattle.spec_texts.specs.declared.statements.IdleSql.TheVariants as idle
+
+-- one of one or more passes the test
+abbrev pub any_of : {A : Type 0} → (A → Bool) → Chain A → Bool
+any_of test (Last a) = test a
+any_of test (More a l) = test a || any_of test l
+
+abbrev pub is_not_null : Property → Bool
+is_not_null PrimaryKey = false
+is_not_null NotNull = true
+
+abbrev pub has_not_null : TablePart → Bool
+has_not_null (Column name kind properties) = list_any is_not_null properties
+has_not_null (Key name) = false
+
+abbrev pub is_serializable : Level → Bool
+is_serializable Serializable = true
+is_serializable RepeatableRead = false
+is_serializable (Read word) = false
+
+abbrev pub is_other_level : Option Level → Bool
+is_other_level None = false
+is_other_level (Some level) = not (is_serializable level)
+
+-- which kind is asked for
+abbrev pub begins_idle : IdleSql → Option Level → Bool
+begins_idle idle.Level level = is_some level
+begins_idle idle.OtherLevel level = is_other_level level
+begins_idle idle.Setting level = false
+begins_idle idle.NotNull level = false
+
+abbrev pub sets_idle : IdleSql → Bool
+sets_idle idle.Level = false
+sets_idle idle.OtherLevel = false
+sets_idle idle.Setting = true
+sets_idle idle.NotNull = false
+
+abbrev pub declares_idle : IdleSql → Chain TablePart → Bool
+declares_idle idle.Level parts = false
+declares_idle idle.OtherLevel parts = false
+declares_idle idle.Setting parts = false
+declares_idle idle.NotNull parts = any_of has_not_null parts
+
+-- a level has no effect, as all transactions are serializable; nor has a setting; and no value is null
+abbrev pub is_idle : IdleSql → Statement → Bool
+is_idle kind (tree.CreateTable n ps) = declares_idle kind ps
+is_idle kind (tree.Insert n names rows) = false
+is_idle kind (tree.Selects s) = false
+is_idle kind (tree.Update n as' c) = false
+is_idle kind (tree.Delete n c) = false
+is_idle kind (tree.Begin start level) = begins_idle kind level
+is_idle kind (tree.Ends word noise) = false
+is_idle kind (tree.Lock word n mode nowait) = false
+is_idle kind (tree.Set setting) = sets_idle kind
+
+-- what is read, and nothing of what is refused
+abbrev pub read_or_none : Result (List StatementAt) Fault → List StatementAt
+read_or_none (Ok ss) = ss
+read_or_none (Err f) = []
+
+-- where such statements begin in the file, of those of a block that begins there
+abbrev pub idle_at : IdleSql → ℕ → List StatementAt → List ℕ
+idle_at kind block ss = map (λ (s : StatementAt). offset_in block s.0) (filter (λ (s : StatementAt). is_idle kind s.1) ss)
+
+abbrev pub idle_in : IdleSql → BlockTree → List ℕ
+idle_in kind b = idle_at kind b.at (read_or_none (read_text b.text))
+
+-- of all blocks that are sent
+abbrev pub idle_statements : IdleSql → List SentTree → List ℕ
+idle_statements kind blocks = flat_map (λ (p : SentTree). idle_in kind p.block) blocks

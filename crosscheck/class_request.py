@@ -1,0 +1,161 @@
+"""What is asked of classes, as words have it: which orders, how they are grouped, what is printed of each class and how."""
+
+import re
+from dataclasses import dataclass, field
+from itertools import takewhile
+
+from machine import DEADLOCK
+from orders import quoted
+from queries import Expectation, query_of
+from schedules import ALL_ORDERS
+
+FLAGS = [ALL_ORDERS, BY_RESULT, FINAL_ROWS, OUTCOMES, BRIEF, JSON, HTML] = [
+    ALL_ORDERS, "--by-result", "--final-rows", "--outcomes", "--brief", "--json", "--html"
+]
+# What is asked of books alone, and all flags of books.
+RANKS = "--ranks"
+BOOK_FLAGS = [RANKS, OUTCOMES, BRIEF, JSON]
+QUERY, EXPECT, PROGRESS, MEMORY = "--query", "--expect", "--progress", "--memory"
+MOST_MEMORY = 1_000_000
+# What does not go with a page.
+NOT_OF_PAGES = [BRIEF, JSON]
+# The letter of each filter. With `--no-` it keeps the orders that do not have the letter.
+FILTERS = {"waits": "W", "deadlock": "D", "error": "E", "stuck": "S", "anomaly": "R", "not-sent": "N"}
+# Words of an earlier form, each of which is refused.
+OLD_WORDS = ["--answers", "--look", "--left", "--no-serial", "--serial", "--unsent", "--no-unsent"]
+# A word that begins with a hyphen ends the values of an expectation, but where it is a number.
+FALLING, NUMBER = re.compile("-[0-9]+"), re.compile("[0-9]+")
+
+
+class NotAsked(Exception):
+    """Why nothing is asked for by a filter, in the words of a fault line behind the path."""
+
+
+class NoWords(Exception):
+    """Why words are no words of the command."""
+
+
+@dataclass(frozen=True)
+class Filter:
+    """Orders that have a letter, or that do not have it; with a session those in which it is the victim of a deadlock, or in which it is not."""
+
+    name: str
+    has: bool
+    session: str | None = None
+
+    @property
+    def letter(self):
+        return FILTERS[self.name]
+
+    @property
+    def word(self):
+        return f"--{'' if self.has else 'no-'}{self.name}" + ("" if self.session is None else f"={self.session}")
+
+    @property
+    def place(self):
+        """Where it stands among others: by the order of FILTERS, each before its opposite."""
+        return [*FILTERS].index(self.name), not self.has
+
+    @property
+    def opposite(self):
+        return Filter(self.name, not self.has, self.session)
+
+    def passes(self, spec, order_class):
+        is_so = self.letter in order_class.letters
+        if self.session is not None:
+            is_so = DEADLOCK in order_class.ending.transcripts[spec.session_names.index(self.session)]
+        return is_so == self.has
+
+    def check(self, spec):
+        if self.session is not None and self.session not in spec.session_names:
+            raise NotAsked(f"no session {quoted(self.session)}")
+        if self.letter == "R" and spec.lines is not None:
+            raise NotAsked("no serial orders")
+
+
+@dataclass
+class Request:
+    """What is asked of classes. Queries and expectations stand in the order of the words."""
+
+    filters: list = field(default_factory=list)
+    flags: set = field(default_factory=set)
+    queries: list = field(default_factory=list)
+    expectations: list = field(default_factory=list)
+
+    def has(self, flag):
+        return flag in self.flags
+
+    def passes(self, spec, order_class):
+        return all(one.passes(spec, order_class) for one in self.filters)
+
+    def in_place(self):
+        """The filters by their places; those of one place as they were given."""
+        return sorted(self.filters, key=lambda one: one.place)
+
+    def check(self, spec):
+        """Raises the first fault: of filters, of queries, and of expectations."""
+        for one in self.in_place():
+            one.check(spec)
+        for text in self.queries:
+            query_of(spec, text)
+        for one in self.expectations:
+            one.check(spec)
+
+
+def filter_of(word):
+    """The filter of a word, or none."""
+    name, has_session, session = word.partition("=")
+    has = not name.startswith("--no-")
+    name = name.removeprefix("--" if has else "--no-")
+    if not word.startswith("--") or name not in FILTERS or (has_session and name != "deadlock"):
+        return None
+    return Filter(name, has, session if has_session else None)
+
+
+def opposite(word):
+    """The filter of the orders that do not pass this one, as a word."""
+    return filter_of(word).opposite.word
+
+
+def is_value_word(word):
+    return not word.startswith("-") or bool(FALLING.fullmatch(word))
+
+
+def take_values(left):
+    """The SELECT of an expectation and its values, taken from the words."""
+    values = [*takewhile(is_value_word, left[1:])]
+    if not values:
+        raise NoWords(f"{EXPECT} has no value")
+    select = left[0]
+    del left[: 1 + len(values)]
+    return Expectation(select, values)
+
+
+def check_memory(number):
+    """A number of MB."""
+    if not NUMBER.fullmatch(number) or not 1 <= int(number) <= MOST_MEMORY:
+        raise NoWords(f"{number} is no number of MB")
+
+
+def request_of(words):
+    """What these words ask for, the path of the spec not among them. Raises NoWords."""
+    request, left = Request(), [*words]
+    while left:
+        word = left.pop(0)
+        if one := filter_of(word):
+            request.filters.append(one)
+        elif word in FLAGS and word not in request.flags:
+            request.flags.add(word)
+        elif word == QUERY and left:
+            request.queries.append(left.pop(0))
+        elif word == EXPECT and left:
+            request.expectations.append(take_values(left))
+        elif word == MEMORY and left:
+            check_memory(left.pop(0))
+        elif word != PROGRESS:
+            raise NoWords(f"{word} is no option")
+    if not request.has(ALL_ORDERS) and any(one.letter == "N" for one in request.filters):
+        raise NoWords(f"--not-sent goes with {ALL_ORDERS} alone")
+    if request.has(HTML) and any(map(request.has, NOT_OF_PAGES)):
+        raise NoWords(f"{HTML} goes with no other form")
+    return request
