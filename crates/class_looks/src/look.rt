@@ -9,8 +9,8 @@ ghost use Rattle.class_looks.specs.Seeing.{told_by, entries_at, sees, SeesLines}
 
 use bound_statements::{Bound, Condition};
 use events::Event;
+use line_moments::TableRows;
 use lock_modes::{Row, Value};
-use sqlite_items::Items;
 use statement_evaluation::{Entries, Entry, Few, Given, holds, selected};
 use std::alloc::{AllocError, Global};
 use std::marker::Model;
@@ -43,11 +43,7 @@ impl Look {
 
     /// What the SELECT tells of rows left, which are those of each table by its number, in the order of their keys: each row and how
     /// many they are, or why it fails. It takes no locks, and no row is copied. It fails for want of memory alone.
-    pub fn seen(
-        &self,
-        alloc: Global,
-        left: &[Items<(Value, Row)>],
-    ) -> Result<Vec<Event>, AllocError>
+    pub fn seen(&self, alloc: Global, left: &[TableRows]) -> Result<Vec<Event>, AllocError>
         ensures told { IfOk result (λ events. events.items ≡ told_by (sees self.now left.now)) }
         // So it is what the SELECT tells in the world behind each line that leaves these rows.
         ensures lines { IfOk result (λ events. SeesLines self.now left.now events.items) }
@@ -57,11 +53,7 @@ impl Look {
 }
 
 /// What a SELECT tells of rows left, and nothing where the statement is none.
-fn seen_by(
-    alloc: Global,
-    statement: &Bound,
-    left: &[Items<(Value, Row)>],
-) -> Result<Vec<Event>, AllocError>
+fn seen_by(alloc: Global, statement: &Bound, left: &[TableRows]) -> Result<Vec<Event>, AllocError>
     ensures { IfOk result (λ events. events.items ≡ told_by (sees statement.now left.now)) }
 {
     match statement {
@@ -76,7 +68,7 @@ fn seen_by(
 }
 
 /// The rows of the table with this number.
-fn rows_of<'a>(left: &'a [Items<(Value, Row)>], table: u16) -> &'a [(Value, Row)]
+fn rows_of<'a>(left: &'a [TableRows], table: u16) -> &'a [(Value, Row)]
     ensures { result.now ≡ get_or left.now table [] }
 {
     match left.get(table as usize) {

@@ -6,6 +6,7 @@ ghost use Rattle.class_texts.specs.Beneath as spec;
 use crate::kind::ClassKind;
 use crate::rows::{put_rows, values_of};
 use binding_model::Table;
+use line_moments::TableRows;
 use lock_modes::{Row, Text, Value};
 use order_classes::{Rest, Shows};
 use shown_texts::{put, put_shown};
@@ -30,7 +31,7 @@ pub(crate) fn begun(alloc: Global) -> Result<Items<char>, AllocError>
 }
 
 /// The rows of the table at a place, or none where there is no such place.
-pub fn rows_at(left: &[Items<(Value, Row)>], table: usize) -> &[(Value, Row)]
+pub fn rows_at(left: &[TableRows], table: usize) -> &[(Value, Row)]
     ensures { result.now ≡ get_or left.now table [] }
 {
     match left.get(table) {
@@ -62,7 +63,7 @@ pub(crate) fn put_tables(
     lines: &mut Items<Items<char>>,
     margin: &str,
     tables: &[Table],
-    left: &[Items<(Value, Row)>],
+    left: &[TableRows],
 ) -> Result<(), AllocError>
     ensures { OnOk result (lines.new ≡ lines.old ++ spec.tables_from margin.now left.now 0 tables.now) }
 {

@@ -6,18 +6,14 @@ ghost use Rattle.class_values.specs.Class as spec;
 use crate::label::Label;
 use binding_model::Table;
 use class_texts::{ClassKind, rows_at};
+use line_moments::TableRows;
 use lock_modes::{Row, Value};
 use order_classes::{Rest, Shows};
 use shown_values::{push, push_before, push_standing, push_table, push_word};
-use sqlite_items::Items;
 use std::alloc::AllocError;
 
 /// Pushes each table and the rows that are left in it.
-fn push_tables(
-    tables: &[Table],
-    left: &[Items<(Value, Row)>],
-    out: &mut Vec<u8>,
-) -> Result<(), AllocError>
+fn push_tables(tables: &[Table], left: &[TableRows], out: &mut Vec<u8>) -> Result<(), AllocError>
     ensures { OnOk result (out.new.items ≡ out.old.items ++ spec.tables_from left.now 0 tables.now) }
 {
     for place in 0..tables.len() {
@@ -66,7 +62,7 @@ pub(crate) fn push_left_part(
 fn push_left(
     label: &str,
     tables: &[Table],
-    left: &[Items<(Value, Row)>],
+    left: &[TableRows],
     out: &mut Vec<u8>,
 ) -> Result<(), AllocError>
     ensures { OnOk result (out.new.items ≡ out.old.items ++ (label.now ++ spec.tables_json tables.now left.now)) }

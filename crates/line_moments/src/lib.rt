@@ -4,6 +4,7 @@
 mod laws;
 mod moment;
 mod shown;
+mod table_rows;
 
 pub use laws::{
     files_are_shown, keys_tell_rows, lacks_are_told, left_is_exact, locks_are_asked,
@@ -14,3 +15,4 @@ pub use laws::{
 };
 pub use moment::{Change, Ending, Manner, Moment, Refusal, Still};
 pub use shown::{Begun, Left, Shown, Standing};
+pub use table_rows::TableRows;

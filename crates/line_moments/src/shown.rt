@@ -4,8 +4,9 @@ ghost use Rattle.std.specs.Prelude.{◌≡◌};
 ghost use Rattle.line_moments.specs.Left.{standing_by};
 
 use crate::moment::Moment;
+use crate::table_rows::TableRows;
 use binding_model::Table;
-use lock_modes::{Mode, Resource, Row, Value};
+use lock_modes::{Mode, Resource};
 use lock_queues::Want;
 use machine_model::Status;
 use sqlite_items::Items;
@@ -14,7 +15,7 @@ use sqlite_items::Items;
 /// order in which they were inserted.
 pub struct Left {
     pub table: Table,
-    pub rows: Items<(Value, Row)>,
+    pub rows: TableRows,
 }
 
 // Written out and not derived, so that who owns one calls this and does not let its parts go one by one.

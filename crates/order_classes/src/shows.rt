@@ -4,6 +4,7 @@ ghost use Rattle.std.specs.Prelude.{◌≡◌, ◌↔◌, IfOk, IsTrue};
 
 use events::{are_same_values, is_same_value};
 use finite_maps::Fork;
+use line_moments::TableRows;
 use lock_modes::{Row, Value};
 use sqlite_items::Items;
 use std::alloc::{AllocError, Global};
@@ -28,7 +29,7 @@ pub struct Shows {
     pub told: Outcome,
     /// Of each declared table the committed rows with their keys, as readers see them: in the order of keys, or, where a table has no
     /// key, in the order in which they lie, each at 0.
-    pub left: Items<Items<(Value, Row)>>,
+    pub left: Items<TableRows>,
     /// How each session stands.
     pub rests: Items<Rest>,
 }
@@ -45,29 +46,16 @@ impl Drop for Shows {
 }
 
 /// The same rows of the same tables, which are shared.
-pub fn copied_tables(
+pub(crate) fn copied_tables(
     alloc: Global,
-    tables: &[Items<(Value, Row)>],
-) -> Result<Items<Items<(Value, Row)>>, AllocError>
+    tables: &[TableRows],
+) -> Result<Items<TableRows>, AllocError>
     ensures { IfOk result (λ copies. copies ≡ tables.now) }
 {
     let mut copies = Items::new(alloc);
     for rows in tables {
-        let copy = copied_rows(alloc, rows.as_slice())?;
+        let copy = rows.fork()?;
         copies.push(copy)?;
-    }
-    Ok(copies)
-}
-
-/// The same rows with the same keys, which are shared.
-pub fn copied_rows(alloc: Global, rows: &[(Value, Row)]) -> Result<Items<(Value, Row)>, AllocError>
-    ensures { IfOk result (λ copies. copies ≡ rows.now) }
-{
-    let mut copies = Items::new(alloc);
-    for entry in rows {
-        let key = entry.0.fork()?;
-        let row = entry.1.fork()?;
-        copies.push((key, row))?;
     }
     Ok(copies)
 }
@@ -100,7 +88,7 @@ impl Shows {
 }
 
 /// Whether the same rows of the same tables are left, each in its place.
-fn are_same_tables(a: &[Items<(Value, Row)>], b: &[Items<(Value, Row)>]) -> bool
+fn are_same_tables(a: &[TableRows], b: &[TableRows]) -> bool
     ensures { IsTrue result ↔ (a.now ≡ b.now) }
 {
     if a.len() != b.len() {

@@ -6,8 +6,8 @@ ghost use Rattle.session_machine.specs.Showing as spec;
 
 use binding_model::{Column, Table};
 use finite_maps::Fork;
-use line_moments::Left;
-use lock_modes::{Row, Text, Value};
+use line_moments::{Left, TableRows};
+use lock_modes::Text;
 use row_tables::Store;
 use sqlite_items::Items;
 use std::alloc::{AllocError, Global};
@@ -24,15 +24,13 @@ pub(crate) fn committed(store: &Store, count: u8) -> Result<Store, AllocError>
 }
 
 /// The rows of a table, in the order of their keys.
-fn rows_in(alloc: Global, store: &Store, table: u16) -> Result<Items<(Value, Row)>, AllocError>
+fn rows_in(alloc: Global, store: &Store, table: u16) -> Result<TableRows, AllocError>
     requires { spec.NothingOpen store.now }
     ensures { IfOk result (λ rows. rows ≡ rows_of table store.now.committed) }
 {
-    let mut rows = Items::new(alloc);
+    let mut rows = TableRows::new(alloc);
     for (key, row) in store.scan(0, table) {
-        let key = key.fork()?;
-        let row = row.fork()?;
-        rows.push((key, row))?;
+        rows.push(key, row)?;
     }
     Ok(rows)
 }

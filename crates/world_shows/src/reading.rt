@@ -9,7 +9,8 @@ ghost use Rattle.world_shows.specs.Parts.{at_zero, rest_by};
 
 use binding_model::Table;
 use finite_maps::Fork;
-use lock_modes::{Row, Value};
+use line_moments::TableRows;
+use lock_modes::Value;
 use machine_model::Status;
 use marked_worlds::MarkedWorld;
 use order_classes::{Rest, Shows};
@@ -54,7 +55,7 @@ fn left_behind(
     alloc: Global,
     world: &MarkedWorld<'_>,
     tables: &[Table],
-) -> Result<Items<Items<(Value, Row)>>, AllocError>
+) -> Result<Items<TableRows>, AllocError>
     requires { world.now.spent ≡ false }
     ensures { IfOk result (λ left. left ≡ map seen (left_in tables.now world.now.world)) }
 {
@@ -72,7 +73,7 @@ fn seen_in(
     world: &MarkedWorld<'_>,
     table: &Table,
     number: usize,
-) -> Result<Items<(Value, Row)>, AllocError>
+) -> Result<TableRows, AllocError>
     requires { world.now.spent ≡ false }
     ensures { IfOk result (λ rows. rows ≡ seen (record { table = table.now; rows = rows_of number world.now.world.rows })) }
 {
@@ -87,36 +88,25 @@ fn seen_in(
 }
 
 /// The rows of a table in the order of their keys.
-fn rows_behind(
-    alloc: Global,
-    world: &MarkedWorld<'_>,
-    table: u16,
-) -> Result<Items<(Value, Row)>, AllocError>
+fn rows_behind(alloc: Global, world: &MarkedWorld<'_>, table: u16) -> Result<TableRows, AllocError>
     requires { world.now.spent ≡ false }
     ensures { IfOk result (λ rows. rows ≡ rows_of table world.now.world.rows) }
 {
-    let mut rows = Items::new(alloc);
+    let mut rows = TableRows::new(alloc);
     for (key, row) in world.committed(table) {
-        let key = key.fork()?;
-        let row = row.fork()?;
-        rows.push((key, row))?;
+        rows.push(key, row)?;
     }
     Ok(rows)
 }
 
 /// The rows of a table, each at 0.
-fn unnumbered(
-    alloc: Global,
-    world: &MarkedWorld<'_>,
-    table: u16,
-) -> Result<Items<(Value, Row)>, AllocError>
+fn unnumbered(alloc: Global, world: &MarkedWorld<'_>, table: u16) -> Result<TableRows, AllocError>
     requires { world.now.spent ≡ false }
     ensures { IfOk result (λ rows. rows ≡ map at_zero (rows_of table world.now.world.rows)) }
 {
-    let mut rows = Items::new(alloc);
+    let mut rows = TableRows::new(alloc);
     for (_key, row) in world.committed(table) {
-        let row = row.fork()?;
-        rows.push((Value::Int(0), row))?;
+        rows.push(&Value::Int(0), row)?;
     }
     Ok(rows)
 }
