@@ -1,3 +1,2 @@
-pub mod Bucketed
 pub mod Places
-pub mod Indexed
+pub mod Numbered

@@ -40,6 +40,3 @@ module _ {A : Type 0} where
   at-among [] n a e = absurd (let lt = slice_get_within [] n a e in omega (arith, lt))
   at-among (x ∷ xs) zero a e = inl (let h : Some x ≡ Some a = e in cc)
   at-among (x ∷ xs) (suc n) a e = inr (at-among xs n a e)
-
-  pub inside-at : (xs : List A) (n : ℕ) (a : A) → slice_get xs n ≡ Some a → n < length xs
-  inside-at xs n a e = slice_get_within xs n a e

@@ -1,9 +1,8 @@
--- What is shown, each once, found by what is told.
-use Rattle.std.specs.Prelude.{◌≡◌, ℕ, ◌⊎◌, List, [], ◌∷◌, ◌++◌, length, slice_get, Some}
-use Rattle.finite_maps.specs.Map.{Map, get}
-use Rattle.events.specs.declared.event.Event.{Event}
-use Rattle.transcripts.proofs.OutcomeOrder.{outcome_order}
-use Rattle.lock_queues.specs.Reasons.{Among}
+-- What is shown, each once, under numbers.
+use Rattle.std.specs.Prelude.{◌≡◌, ◌↔◌, ℕ, ◌⊎◌, List, [], ◌∷◌, ◌++◌, length, slice_get, Some}
+use Rattle.std.specs.Map.{lookup}
+use Rattle.std.specs.BTreeMap.{is_at}
+use Rattle.order_classes.specs.Order.{shows_cmp}
 use Rattle.order_classes.specs.declared.shows.Shows.{Shows}
 
 -- no two numbers have the same
@@ -15,18 +14,6 @@ pub record HasNumber (old new : List Shows) (s : Shows) (n : ℕ) : Type 0 where
   pub at : slice_get new n ≡ Some s
   pub grown : (new ≡ old) ⊎ ((n ≡ length old) × (new ≡ old ++ s ∷ []))
 
--- ---- what finds them
-
--- numbers by what is told
-abbrev pub ByTold : Type 0
-ByTold = Map outcome_order (List ℕ)
-
--- each number stands among those of what is told there, and no two have the same
-pub record AreIndexed (all : List Shows) (by : ByTold) : Type 0 where
-  pub each : (n : ℕ) (s : Shows) → slice_get all n ≡ Some s → (ns : List ℕ) × (get by s.told ≡ Some ns) × Among n ns
-  pub differ : AreDifferent all
-
--- the numbers told so, and one more
-pub record AreWith (by : ByTold) (told : List (List Event)) (n : ℕ) (ns : List ℕ) : Type 0 where
-  pub new : Among n ns
-  pub old : (m : ℕ) (os : List ℕ) → get by told ≡ Some os → Among m os → Among m ns
+-- each is found under the number of its place, and nothing else is
+abbrev pub AreNumbered : List Shows → List (Shows × ℕ) → Type 0
+AreNumbered all numbers = (s : Shows) (n : ℕ) → (lookup (is_at (shows_cmp s)) numbers ≡ Some n) ↔ (slice_get all n ≡ Some s)

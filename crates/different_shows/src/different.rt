@@ -1,20 +1,19 @@
 //! What is shown, each once, under numbers.
 
-ghost use Rattle.std.specs.Prelude.{◌≡◌, ◌↔◌, ◌≢◌, ℕ, ◌<◌, ◌++◌, ◌∷◌, [], Some, None, IfOk, IsTrue, OnOk, OnErr, MatchOption, length, slice_get};
+ghost use Rattle.std.specs.Prelude.{◌≡◌, ◌++◌, ◌∷◌, [], Some, IfOk, OnErr, MatchOption, length, slice_get};
 ghost use Rattle.lock_queues.specs.Reasons.{Among};
 ghost use Rattle.different_shows.specs.Different.{AreDifferent, HasNumber};
 
-use crate::buckets::Buckets;
-use finite_maps::Fork;
 use order_classes::Shows;
 use std::alloc::{AllocError, Global};
+use std::collections::BTreeMap;
 use std::marker::Model;
 
 /// What is shown, each once, in the order of numbers, seen by contracts as that list.
 pub struct Different {
     alloc: Global,
     shows: Vec<Shows>,
-    buckets: Buckets,
+    numbers: BTreeMap<Shows, u32>,
 }
 
 // Written out and not derived, so that who owns one calls this and does not let its parts go one by one.
@@ -23,7 +22,7 @@ impl Drop for Different {
         let Different {
             alloc: _,
             shows: _shows,
-            buckets: _buckets,
+            numbers: _numbers,
         } = self;
     }
 }
@@ -31,13 +30,13 @@ impl Drop for Different {
 impl Model for Different {
     ghost use Rattle.std.specs.Prelude.{List};
     ghost use Rattle.order_classes.specs.declared.shows.Shows.{Shows as Shown};
-    ghost use Rattle.different_shows.specs.Different.{AreIndexed};
+    ghost use Rattle.different_shows.specs.Different.{AreNumbered};
 
     ghost Value = { List Shown };
 
     ghost view = { λ d. d.shows.items };
 
-    ghost invariant = { λ d. AreIndexed d.shows.items d.buckets };
+    ghost invariant = { λ d. AreNumbered d.shows.items d.numbers.entries };
 }
 
 impl Different {
@@ -47,7 +46,7 @@ impl Different {
         Different {
             alloc,
             shows: Vec::new(alloc),
-            buckets: Buckets::new(alloc),
+            numbers: BTreeMap::new(alloc),
         }
     }
 
@@ -69,28 +68,7 @@ impl Different {
     pub fn find(&self, shows: &Shows) -> Option<u32>
         ensures { MatchOption result (Among shows.now self.now → ⊥) (λ n. slice_get self.now n ≡ Some shows.now) }
     {
-        match self.buckets.get(&shows.told) {
-            Some(numbers) => self.find_in(numbers.as_slice(), shows),
-            None => None,
-        }
-    }
-
-    fn find_in(&self, numbers: &[u32], shows: &Shows) -> Option<u32>
-        ensures { MatchOption result ((n : ℕ) → Among n numbers.now → slice_get self.now n ≢ Some shows.now) (λ n. slice_get self.now n ≡ Some shows.now) }
-    {
-        for number in numbers {
-            if self.is_at(*number, shows) {
-                return Some(*number);
-            }
-        }
-        None
-    }
-
-    fn is_at(&self, number: u32, shows: &Shows) -> bool
-        ensures { IsTrue result ↔ (slice_get self.now number ≡ Some shows.now) }
-    {
-        let place = number as usize;
-        place < self.shows.len() && self.shows[place].is_same(shows)
+        self.numbers.get(shows).copied()
     }
 
     /// The number of what is shown, which is added behind the others where it is not there.
@@ -115,10 +93,9 @@ impl Different {
             return Err(AllocError);
         };
         let copy = shows.copied(self.alloc)?;
-        let told = shows.told.fork()?;
-        let numbers = self.buckets.with_number(self.alloc, &shows.told, number)?;
+        let key = shows.copied(self.alloc)?;
         self.shows.reserve(1)?;
-        self.buckets.put(told, numbers)?;
+        self.numbers.insert(key, number)?;
         self.shows.push_reserved(copy);
         Ok(number)
     }

@@ -1,7 +1,6 @@
 //! What is shown, each once, under numbers.
 #![tactic(auto)]
 
-mod buckets;
 mod different;
 
 pub use different::Different;

@@ -1,17 +1,20 @@
 //! What an order shows: what it tells each session, and what it leaves.
 
-ghost use Rattle.std.specs.Prelude.{◌≡◌, ◌↔◌, IfOk, IsTrue};
+ghost use Rattle.std.specs.Prelude.{◌≡◌, Some, IfOk};
+ghost use Rattle.std.proofs.Common.{rules};
+ghost use Rattle.std.specs.Ordering.{eq_by_cmp};
+ghost use Rattle.std.specs.Cmp.{po, eq_by_cmp_equiv, partial_equiv_from_equiv};
 
-use events::{are_same_values, is_same_value};
+use crate::order::tables_order;
 use finite_maps::Fork;
 use line_moments::TableRows;
-use lock_modes::{Row, Value};
 use sqlite_items::Items;
 use std::alloc::{AllocError, Global};
+use std::cmp::Ordering;
 use transcripts::Outcome;
 
 /// How a session stands at the end of an order.
-#[derive(Clone, Copy)]
+#[derive(Clone, Copy, PartialEq, Eq, PartialOrd, Ord)]
 pub enum Rest {
     /// It is in no transaction.
     HasEnded,
@@ -67,15 +70,6 @@ fn copied_rests(alloc: Global, rests: &[Rest]) -> Result<Items<Rest>, AllocError
 }
 
 impl Shows {
-    /// Whether both are the same.
-    pub fn is_same(&self, other: &Shows) -> bool
-        ensures { IsTrue result ↔ (self.now ≡ other.now) }
-    {
-        self.told.is_same(&other.told)
-            && are_same_tables(self.left.as_slice(), other.left.as_slice())
-            && are_same_rests(self.rests.as_slice(), other.rests.as_slice())
-    }
-
     /// The same, with rows that are shared.
     pub fn copied(&self, alloc: Global) -> Result<Shows, AllocError>
         ensures { IfOk result (λ copy. copy ≡ self.now) }
@@ -87,63 +81,57 @@ impl Shows {
     }
 }
 
-/// Whether the same rows of the same tables are left, each in its place.
-fn are_same_tables(a: &[TableRows], b: &[TableRows]) -> bool
-    ensures { IsTrue result ↔ (a.now ≡ b.now) }
-{
-    if a.len() != b.len() {
-        return false;
+impl PartialEq for Shows {
+    ghost use Rattle.order_classes.specs.Order.{shows_cmp, shows_total};
+
+    ghost eq = { eq_by_cmp shows_cmp };
+
+    ghost laws = { partial_equiv_from_equiv (eq_by_cmp_equiv shows_total) };
+
+    fn eq(&self, other: &Shows) -> bool {
+        self.cmp(other).is_eq()
     }
-    for place in 0..a.len() {
-        if !are_same_rows(a[place].as_slice(), b[place].as_slice()) {
-            return false;
+}
+
+impl Eq for Shows {
+    ghost use Rattle.order_classes.specs.Order.{shows_total};
+
+    ghost laws = { eq_by_cmp_equiv shows_total };
+}
+
+impl PartialOrd for Shows {
+    ghost use Rattle.order_classes.specs.Order.{shows_cmp, shows_total};
+
+    ghost partial_cmp = { λ a b. Some (shows_cmp a b) };
+
+    ghost laws = { po shows_total (λ a b. Prim.search rules) };
+
+    fn partial_cmp(&self, other: &Shows) -> Option<Ordering> {
+        Some(self.cmp(other))
+    }
+}
+
+/// By what is told, then by the rows that are left, and then by how sessions stand.
+impl Ord for Shows {
+    ghost use Rattle.order_classes.specs.Order.{shows_cmp, shows_total};
+
+    ghost cmp = { shows_cmp };
+
+    ghost total = { shows_total };
+
+    ghost matches_partial_cmp = { Prim.search rules };
+
+    ghost matches_eq = { Prim.search rules };
+
+    fn cmp(&self, other: &Shows) -> Ordering {
+        let told = self.told.cmp(&other.told);
+        if told.is_ne() {
+            return told;
         }
-    }
-    true
-}
-
-fn are_same_rows(a: &[(Value, Row)], b: &[(Value, Row)]) -> bool
-    ensures { IsTrue result ↔ (a.now ≡ b.now) }
-{
-    if a.len() != b.len() {
-        return false;
-    }
-    for place in 0..a.len() {
-        if !is_same_row(&a[place], &b[place]) {
-            return false;
+        let left = tables_order(self.left.as_slice(), other.left.as_slice());
+        if left.is_ne() {
+            return left;
         }
-    }
-    true
-}
-
-fn is_same_row(a: &(Value, Row), b: &(Value, Row)) -> bool
-    ensures { IsTrue result ↔ (a.now ≡ b.now) }
-{
-    is_same_value(&a.0, &b.0) && are_same_values(a.1.values(), b.1.values())
-}
-
-fn are_same_rests(a: &[Rest], b: &[Rest]) -> bool
-    ensures { IsTrue result ↔ (a.now ≡ b.now) }
-{
-    if a.len() != b.len() {
-        return false;
-    }
-    for place in 0..a.len() {
-        if !is_same_rest(a[place], b[place]) {
-            return false;
-        }
-    }
-    true
-}
-
-fn is_same_rest(a: Rest, b: Rest) -> bool
-    ensures { IsTrue result ↔ (a ≡ b) }
-{
-    match (a, b) {
-        (Rest::HasEnded, Rest::HasEnded)
-        | (Rest::IsOpen, Rest::IsOpen)
-        | (Rest::HasFailed, Rest::HasFailed)
-        | (Rest::StillWaits, Rest::StillWaits) => true,
-        _ => false,
+        self.rests.as_slice().cmp(&other.rests.as_slice())
     }
 }

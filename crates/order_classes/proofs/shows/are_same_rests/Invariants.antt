@@ -1,6 +1,0 @@
-use Rattle.std.proofs.Common.{◌≡◌, take}
-use Rattle.order_classes.proofs.shows.are_same_rests.Given as goal
-
--- the items so far are the same
-abbrev pub invariant-loop-place : goal.invariant-loop-place
-invariant-loop-place l = take l.place l.a ≡ take l.place l.b
