@@ -194,7 +194,7 @@ fn found_in<V: Watch>(
         Ok(classes) => classes,
         Err(error) => return Err(error),
     };
-    let serial = match serial_of(alloc, spec, tables) {
+    let serial = match serial_of(alloc, spec, tables, room) {
         Ok(serial) => serial,
         Err(error) => return Err(error),
     };
@@ -212,12 +212,17 @@ fn found_in<V: Watch>(
 }
 
 /// What the serial orders of a spec answer: nothing of one with permutation lines.
-fn serial_of(alloc: Global, spec: &Spec, tables: &[Table]) -> Result<Different, StatesError>
+fn serial_of(
+    alloc: Global,
+    spec: &Spec,
+    tables: &[Table],
+    room: usize,
+) -> Result<Different, StatesError>
     ensures answers { IfOk result (AreSerialOf tables.now spec.now.run) }
     ensures refused { IfErr result (IsNotCounted spec.now) }
 {
     match spec.shape() {
-        Some(_) => serial_answers(alloc, spec, tables),
+        Some(_) => serial_answers(alloc, spec, tables, room),
         None => Ok(Different::new(alloc)),
     }
 }

@@ -145,10 +145,10 @@ module _ (kind : Kind) (tables : List Table) (run : Spec) (shown : List Shows) (
 
 -- ---- one line more
 
-front-get : (old new : List Shows) (n : ℕ) (s : Shows) → IsPrefix old new → slice_get old n ≡ Some s → slice_get new n ≡ Some s
-front-get old new n s p e = subst (λ l. slice_get l n ≡ Some s) p.1 (at old p.0 n e)
+pub front-get : {A : Type 0} (old new : List A) (n : ℕ) (s : A) → IsPrefix old new → slice_get old n ≡ Some s → slice_get new n ≡ Some s
+front-get {A} old new n s p e = subst (λ l. slice_get l n ≡ Some s) p.1 (at old p.0 n e)
   where
-    at : (xs ys : List Shows) (k : ℕ) → slice_get xs k ≡ Some s → slice_get (xs ++ ys) k ≡ Some s
+    at : (xs ys : List A) (k : ℕ) → slice_get xs k ≡ Some s → slice_get (xs ++ ys) k ≡ Some s
     at [] ys k f = absurd (cc)
     at (x ∷ xs) ys zero f = f
     at (x ∷ xs) ys (suc k) f = at xs ys k f

@@ -4,4 +4,3 @@ pub mod Told
 pub mod Tallies
 pub mod Serial
 pub mod Leading
-pub mod Walking

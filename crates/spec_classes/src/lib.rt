@@ -1,6 +1,7 @@
 //! The orders of a spec in classes by what they show, each with the exact number of its orders and its first one; and what serial orders answer.
 #![tactic(auto)]
 
+mod answered;
 mod classes;
 mod laws;
 mod leading;
@@ -10,8 +11,6 @@ mod showing;
 mod start;
 mod tallies;
 mod telling;
-mod walking;
-mod whole_lines;
 
 pub use classes::{OrderClass, classes_of};
 pub use laws::counts_add_up;

@@ -1,34 +1,36 @@
-//! What serial orders answer.
+//! What serial orders answer. They are not run one by one: behind the same sessions, in whatever order, the machine is mostly in the same state, and what is left
+//! is run from there once.
 
-ghost use Rattle.std.specs.Prelude.{◌≡◌, ℕ, [], replicate, IfOk, IsErrOf, OnOk};
-ghost use Rattle.bound_specs.specs.Spec.{counts_of, queues_of};
+ghost use Rattle.std.specs.Prelude.{◌≡◌, ◌≢◌, ◌≤◌, ℕ, [], false, length, replicate, IfOk, IsErrOf, OnOk};
+ghost use Rattle.perm_ranks.specs.declared.TheConstants.{MAX_SESSIONS};
 ghost use Rattle.machine_model.specs.Start.{start};
 ghost use Rattle.session_steps.specs.Refused.{IsRefusedBy};
 ghost use Rattle.session_steps.specs.declared.error.StartError.{StartError};
 ghost use Rattle.schedule_counts.specs.declared.counting.StatesError.TheVariants.{Start, TooMany};
 ghost use Rattle.spec_classes.specs.Classes.{AreSerialAnswers};
-ghost use Rattle.spec_classes.specs.Serial.{AreWith};
-ghost use Rattle.spec_classes.specs.Showing.{AreSteps, IsAtStart};
-ghost use Rattle.spec_classes.specs.Walking.{IsBehind};
+ghost use Rattle.spec_classes.specs.Serial.{AreOnce, IsAnswerBehind, IsAnswerFrom, IsAnswerIn, IsReady, IsRun, whole};
+ghost use Rattle.spec_classes.specs.Showing.{IsAtStart};
 
+use crate::answered::{Answered, Left};
 use crate::start::started;
-use crate::walking::next_shown;
-use crate::whole_lines::{orders_of, serial_line};
 use binding_model::Table;
 use bound_specs::Spec;
 use different_shows::Different;
 use marked_worlds::MarkedWorld;
-use order_classes::answers_of;
-use perm_ranks::Shape;
+use order_classes::{answers_of, session_orders_are_all};
+use perm_ranks::MAX_SESSIONS;
 use schedule_counts::StatesError;
 use session_steps::SendError;
 use std::alloc::Global;
+use world_shows::shows_of;
 
 /// What the orders answer that run the sessions one behind the other, each whole: each answer once. It is asked of a spec without permutation lines.
+/// At most `room` bytes of different states are noted.
 pub fn serial_answers(
     alloc: Global,
     spec: &Spec,
     tables: &[Table],
+    room: usize,
 ) -> Result<Different, StatesError>
     requires { spec.now.run.lines ≡ [] }
     ensures answers { IfOk result (AreSerialAnswers tables.now spec.now.run) }
@@ -36,7 +38,7 @@ pub fn serial_answers(
     ensures few { (noted : ℕ) → IsErrOf result (TooMany noted) → ⊥ }
 {
     let mut world = started(alloc, spec)?;
-    match all_answers(alloc, &mut world, spec, tables) {
+    match all_answers(alloc, &mut world, spec, tables, room) {
         Ok(answers) => Ok(answers),
         Err(_) => Err(StatesError::Memory),
     }
@@ -48,89 +50,137 @@ fn all_answers(
     world: &mut MarkedWorld<'_>,
     spec: &Spec,
     tables: &[Table],
+    room: usize,
 ) -> Result<Different, SendError>
-    requires at { IsAtStart spec.now world.old }
-    requires unmarked { world.old.marked ≡ [] }
-    requires words { spec.now.run.lines ≡ [] }
+    requires { IsAtStart spec.now world.old }
     ensures { IfOk result (AreSerialAnswers tables.now spec.now.run) }
 {
-    let Some(shape) = spec.shape() else {
-        unreachable!()
-    };
-    match orders_of(spec.sessions()) {
-        Some(orders) => order_answers(alloc, world, spec, tables, shape, &orders),
-        None => idle_answers(alloc, world, spec, tables),
-    }
+    session_orders_are_all();
+    let mut answered = Answered::new(alloc);
+    let left = once(spec.sessions());
+    add_orders(alloc, world, tables, room, left, &mut answered)?;
+    Ok(answered.answers)
 }
 
-/// What the orders of sessions answer.
-fn order_answers(
+/// Each of so many sessions once.
+fn once(sessions: u8) -> Left
+    requires { sessions ≤ MAX_SESSIONS }
+    ensures long { length result ≡ MAX_SESSIONS }
+    ensures once { AreOnce sessions result }
+{
+    let mut left = [0; MAX_SESSIONS];
+    for session in 0..sessions {
+        left[session as usize] = 1;
+    }
+    left
+}
+
+/// Adds what the orders of the sessions that are left answer, run from the world now. The world comes back to where it is.
+#[cycle(orders)]
+fn add_orders(
     alloc: Global,
     world: &mut MarkedWorld<'_>,
-    spec: &Spec,
     tables: &[Table],
-    shape: &Shape,
-    orders: &Shape,
-) -> Result<Different, SendError>
-    requires at { IsAtStart spec.now world.old }
-    requires unmarked { world.old.marked ≡ [] }
-    requires words { spec.now.run.lines ≡ [] }
-    requires shape { shape.now ≡ counts_of (queues_of spec.now.run) }
-    requires orders { orders.now ≡ replicate spec.now.run.sessions 1 }
-    ensures { IfOk result (AreSerialAnswers tables.now spec.now.run) }
+    room: usize,
+    left: Left,
+    answered: &mut Answered,
+) -> Result<(), SendError>
+    requires long { length left ≡ MAX_SESSIONS }
+    requires ready { IsReady tables.now world.old answered.old }
+    ensures { OnOk result (IsRun tables.now (IsAnswerFrom tables.now left) world.old answered.old world.new answered.new) }
 {
-    let mut answers = Different::new(alloc);
-    let mut sent = Vec::new(alloc);
-    for number in 0..orders.count() {
-        let line = serial_line(spec, shape, orders, number);
-        add_answer(
-            alloc,
-            world,
-            spec,
-            tables,
-            &mut sent,
-            line.as_slice(),
-            &mut answers,
-        )?;
+    let none = [0; MAX_SESSIONS];
+    if left == none {
+        add_answer(alloc, world, tables, answered)?;
+        return Ok(());
     }
-    Ok(answers)
+    let number = world.number_within(room)?;
+    if answered.has(number, left) {
+        return Ok(());
+    }
+    add_each(alloc, world, tables, room, left, answered)?;
+    answered.note(number, left);
+    Ok(())
 }
 
-/// What is answered without a session: the one order has no steps.
-fn idle_answers(
+/// The same, where some session is left: what the orders answer that begin with the first of them, with the next one, and so on.
+#[cycle(orders)]
+fn add_each(
     alloc: Global,
     world: &mut MarkedWorld<'_>,
-    spec: &Spec,
     tables: &[Table],
-) -> Result<Different, SendError>
-    requires at { IsAtStart spec.now world.old }
-    requires unmarked { world.old.marked ≡ [] }
-    requires none { spec.now.run.sessions ≡ 0 }
-    ensures { IfOk result (AreSerialAnswers tables.now spec.now.run) }
+    room: usize,
+    left: Left,
+    answered: &mut Answered,
+) -> Result<(), SendError>
+    requires long { length left ≡ MAX_SESSIONS }
+    requires some { left ≢ replicate MAX_SESSIONS 0 }
+    requires ready { IsReady tables.now world.old answered.old }
+    ensures { OnOk result (IsRun tables.now (IsAnswerFrom tables.now left) world.old answered.old world.new answered.new) }
 {
-    let mut answers = Different::new(alloc);
-    let mut sent = Vec::new(alloc);
-    add_answer(alloc, world, spec, tables, &mut sent, &[], &mut answers)?;
-    Ok(answers)
+    for session in 0..MAX_SESSIONS {
+        if left[session] > 0 {
+            let mut rest = left;
+            rest[session] -= 1;
+            add_behind(alloc, world, tables, room, session as u8, rest, answered)?;
+        }
+    }
+    Ok(())
 }
 
-/// Adds what a line answers, where it is not there. The machine is behind the steps of another line.
+/// Adds what the orders answer that begin with this session, and have those that are left behind it.
+#[cycle(orders)]
+fn add_behind(
+    alloc: Global,
+    world: &mut MarkedWorld<'_>,
+    tables: &[Table],
+    room: usize,
+    session: u8,
+    left: Left,
+    answered: &mut Answered,
+) -> Result<(), SendError>
+    requires long { length left ≡ MAX_SESSIONS }
+    requires ready { IsReady tables.now world.old answered.old }
+    ensures { OnOk result (IsRun tables.now (IsAnswerBehind tables.now session left) world.old answered.old world.new answered.new) }
+{
+    world.mark()?;
+    send_session(world, session)?;
+    add_orders(alloc, world, tables, room, left, answered)?;
+    world.go_back();
+    Ok(())
+}
+
+/// Sends all steps of a session, one behind the other.
+fn send_session(world: &mut MarkedWorld<'_>, session: u8) -> Result<(), SendError>
+    requires whole { world.old.spent ≡ false }
+    ensures sent { OnOk result (world.new.world ≡ whole world.old.file.run world.old.world session) }
+    ensures whole { OnOk result (world.new.spent ≡ false) }
+    ensures marked { world.new.marked ≡ world.old.marked }
+    ensures seen { world.new.seen ≡ world.old.seen }
+    ensures of_spec { world.new.file ≡ world.old.file }
+{
+    let spec = world.spec();
+    let _steps = spec.steps(); // for the proof
+    let mut next = 0;
+    while let Some(step) = spec.step_from(session, next) {
+        world.send(step)?;
+        next = step + 1;
+    }
+    Ok(())
+}
+
+/// Adds what is answered in the world now.
 fn add_answer(
     alloc: Global,
     world: &mut MarkedWorld<'_>,
-    spec: &Spec,
     tables: &[Table],
-    sent: &mut Vec<u8>,
-    line: &[u8],
-    answers: &mut Different,
+    answered: &mut Answered,
 ) -> Result<(), SendError>
-    requires at { IsBehind spec.now world.old sent.old.items }
-    requires known { AreSteps spec.now.run.steps line.now }
-    ensures with { OnOk result (AreWith tables.now spec.now.run line.now answers.old answers.new) }
-    ensures there { OnOk result (IsBehind spec.now world.new sent.new.items) }
+    requires { IsReady tables.now world.old answered.old }
+    ensures { OnOk result (IsRun tables.now (IsAnswerIn tables.now) world.old answered.old world.new answered.new) }
 {
-    let shows = next_shown(alloc, world, spec, tables, sent, line)?;
+    let shows = shows_of(alloc, world, tables)?;
     let answer = answers_of(alloc, &shows)?;
-    answers.number(&answer)?;
+    answered.answers.number(&answer)?;
     Ok(())
 }

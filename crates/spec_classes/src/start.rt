@@ -1,6 +1,6 @@
 //! The machine at the start of a spec.
 
-ghost use Rattle.std.specs.Prelude.{◌≡◌, ℕ, [], IfOk, IsErrOf};
+ghost use Rattle.std.specs.Prelude.{◌≡◌, ℕ, IfOk, IsErrOf};
 ghost use Rattle.machine_model.specs.Start.{start};
 ghost use Rattle.session_steps.specs.Refused.{IsRefusedBy};
 ghost use Rattle.session_steps.specs.declared.error.StartError.{StartError};
@@ -17,7 +17,6 @@ use std::sync::Arc;
 /// The machine at the start of a spec.
 pub(crate) fn started(alloc: Global, spec: &Spec) -> Result<MarkedWorld<'_>, StatesError>
     ensures at { IfOk result (IsAtStart spec.now) }
-    ensures unmarked { IfOk result (λ world. world.marked ≡ []) }
     ensures refused { (error : StartError) → IsErrOf result (StatesError.Start error) → IsRefusedBy error (start spec.now.run) }
     ensures few { (noted : ℕ) → IsErrOf result (TooMany noted) → ⊥ }
 {
