@@ -92,7 +92,7 @@ def class_of(outcome, ranks):
 class BookClasses:
     """The orders of a spec of which books tell something, in classes by what they tell."""
 
-    is_lined = False
+    is_lined = has_anomalies = False
 
     def __init__(self, spec, outcomes):
         self.spec, self.orders, ranks = spec, spec.ranks(), {}

@@ -1,6 +1,6 @@
 """Makes the words of what is asked of the classes of a spec: filters, queries and expectations that fit its tables, from a seed."""
 
-from class_request import ALL_ORDERS, BRIEF, EXPECT, FILTERS, FLAGS, HTML, JSON, MEMORY, NOT_OF_PAGES, OLD_WORDS, QUERY, filter_of, opposite
+from class_request import ALL_ORDERS, BRIEF, EXPECT, FILTERS, FLAGS, HTML, JSON, MEMORY, NOT_OF_PAGES, OLD_WORDS, QUERY, SAMPLE, SEED, filter_of, opposite
 from compare_shown import is_told_alike
 from generate import BIG, ROW_LOCKS, Maker, Table
 from queries import is_query, query_of, rows_in, seen
@@ -213,5 +213,8 @@ class Asker(Maker):
         if self.some(0.25):
             groups += self.faults(any("anomaly" in one[0] for one in groups))
         groups += [[MEMORY, self.one(["500", "1000000", "0", "1000001", "many"])]] * self.some(0.1)
+        if self.some(0.2):
+            groups += [[SAMPLE, self.one(["1", "2", "7", "40", "300", "300", "0", "1000001"])]]
+            groups += [[SEED, self.one(["0", "1", "7", "18446744073709551615", "18446744073709551616"])]] * self.some(0.5)
         self.random.shuffle(groups)
         return [word for group in groups for word in group]

@@ -12,9 +12,11 @@ from shown import HIDDEN, LEFT_IN, json_text
 
 FRONT, DOCTYPE = b'{"format":', b"<!doctype html>"
 HEAD = re.compile(r"(.*): (?:([\d,]+) of )?([\d,]+) (orders?) in ([\d,]+) (class|classes|result|results)(?: \((.*)\)|; (.*))?")
-TOTAL = re.compile(r"  ([WDENSR])  +([\d,]+|-)  +(<?[\d.]+%|-)  +([\d,]+|-)  .+")
-ROW = re.compile(r" {0,9}(\d+)  +([\d,]+)  +(<?[\d.]+%)  ([WDENSR.]{4,6})  +(\d+)  (.+)")
-HOLDS, FAILED = re.compile(r"expect .*: holds in ([\d,]+) of [\d,]+ orders?"), re.compile(r"  FAILED in ([\d,]+) of [\d,]+ orders?")
+# Samples have a column of intervals.
+TOTAL = re.compile(r"  ([WDENSR])  +([\d,]+|-)  +(<?[\d.]+%|-)(?:  +(?:[\d.]+-[\d.]+%|-))?  +([\d,]+|-)  .+")
+ROW = re.compile(r" {0,9}(\d+)  +([\d,]+)  +(<?[\d.]+%)(?:  +[\d.]+-[\d.]+%)?  ([WDENSR.]{4,6})  +(\d+)  (.+)")
+HOLDS = re.compile(r"expect .*: (?:holds in|no counterexample in) ([\d,]+) (?:of [\d,]+ )?orders?")
+FAILED = re.compile(r"  FAILED in ([\d,]+) of [\d,]+ orders?")
 LEVELS = re.compile(r"locking: strict two-phase locking; isolation levels? \(lines? ([\d, ]+)\) (has|have) no effect")
 MISSING = re.compile(r"(1) order is missing, rank (\d+)|([2-9]|[\d,]{2,}) orders are missing, the first of rank (\d+)")
 MARKUP = {*"<>&\u2028\u2029"}
@@ -84,7 +86,7 @@ class ReadObject:
     def __init__(self, out):
         self.text, self.value = out, json.loads(out)
         self.orders, self.asked, self.by = self.value["orders"], self.value["asked"], self.value["by"]
-        self.by_result, self.of_books = self.by == BY_ANSWERS, self.by == BY_OUTCOMES
+        self.by_result, self.of_books, self.is_sample = self.by == BY_ANSWERS, self.by == BY_OUTCOMES, "sample" in self.value
         self.steps, self.totals, self.queries = (self.value[name] for name in ("steps", "totals", "queries"))
         self.expectations = self.value["expectations"]
         self.has_classes = "classes" in self.value
@@ -99,7 +101,8 @@ class ReadObject:
 
     def members(self):
         """Its members before the classes."""
-        return [name for one in MEMBERS for name in [one, *["missing"] * (one == "asked" and self.of_books)]]
+        more = ["sample"] * self.is_sample + ["missing"] * self.of_books
+        return [name for one in MEMBERS for name in [one, *more * (one == "asked")]]
 
     # what is wrong with it
 
@@ -199,11 +202,13 @@ class ReadObject:
     def wrong_rows(self):
         ranks = [row.first_rank for row in self.rows]
         # The permutation of rank 0 may drop a step where another one can be sent: then no order that clients can send begins it.
-        has_rank_0 = self.asked == self.orders and (self.of_books or self.totals["R"] is None or self.totals["N"] is not None)
+        has_rank_0 = self.asked == self.orders and not self.is_sample and (self.of_books or self.totals["R"] is None or self.totals["N"] is not None)
         if ranks != sorted({*ranks}) or (has_rank_0 and ranks[:1] != [0]):
             yield "first ranks do not rise, or not from 0"
         if sum(row.orders for row in self.rows) != self.asked:
             yield "all orders asked for are not so many as the classes have"
+        if self.is_sample and self.value["sample"]["seen_once"] != sum(row.orders == 1 for row in self.rows):
+            yield "not so many classes have one order as are told to"
         yield from self.wrong_ranges()
         for row in self.rows:
             yield from self.wrong_letters(row)
@@ -254,6 +259,7 @@ class ReadObject:
         yield {BY_ANSWERS: "JSON by results", BY_OUTCOMES: "JSON of books"}.get(self.by, "JSON")
         found = {
             "all permutations": not self.of_books and self.totals["N"] is not None,
+            "a sample": self.is_sample,
             "R is not known": not self.of_books and self.totals["R"] is None,
             "a character by its number": "\\u00" in self.text,
             "a character behind a backslash": bool(re.search(r"\\[^u]", self.text)),
@@ -327,6 +333,7 @@ class ReadText:
         yield "a text by results" if self.head[6].startswith("result") else "a text"
         found = {
             "all permutations": "all permutations" in (self.head[7] or ""),
+            "a sample": "sample of" in (self.head[7] or ""),
             "R is not known": "R" in self.totals and self.totals["R"][2] == "-",
             "levels": bool(self.level_lines()),
             "missing orders": bool(self.head[8]),

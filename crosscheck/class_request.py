@@ -15,8 +15,8 @@ FLAGS = [ALL_ORDERS, BY_RESULT, FINAL_ROWS, OUTCOMES, BRIEF, JSON, HTML] = [
 # What is asked of books alone, and all flags of books.
 RANKS = "--ranks"
 BOOK_FLAGS = [RANKS, OUTCOMES, BRIEF, JSON]
-QUERY, EXPECT, PROGRESS, MEMORY = "--query", "--expect", "--progress", "--memory"
-MOST_MEMORY = 1_000_000
+QUERY, EXPECT, PROGRESS, MEMORY, SAMPLE, SEED = "--query", "--expect", "--progress", "--memory", "--sample", "--seed"
+MOST_MEMORY, MOST_SAMPLE, MOST_SEED = 1_000_000, 1_000_000, 2**64 - 1
 # What does not go with a page.
 NOT_OF_PAGES = [BRIEF, JSON]
 # The letter of each filter. With `--no-` it keeps the orders that do not have the letter.
@@ -75,8 +75,10 @@ class Filter:
 
 @dataclass
 class Request:
-    """What is asked of classes. Queries and expectations stand in the order of the words."""
+    """What is asked of classes. Queries and expectations stand in the order of the words. Of a sample its orders and its seed."""
 
+    sample: int | None = None
+    seed: int = 1
     filters: list = field(default_factory=list)
     flags: set = field(default_factory=set)
     queries: list = field(default_factory=list)
@@ -131,10 +133,23 @@ def take_values(left):
     return Expectation(select, values)
 
 
-def check_memory(number):
-    """A number of MB."""
-    if not NUMBER.fullmatch(number) or not 1 <= int(number) <= MOST_MEMORY:
-        raise NoWords(f"{number} is no number of MB")
+def number_in(word, least, most):
+    """A number from the least one to the last one."""
+    if not NUMBER.fullmatch(word) or not least <= int(word) <= most:
+        raise NoWords(f"{word} is no number from {least} to {most}")
+    return int(word)
+
+
+def check_sample(request, words):
+    """Takes a sample's orders to those that clients can send, unless all are wanted."""
+    if request.sample is None:
+        if SEED in words:
+            raise NoWords(f"{SEED} goes with {SAMPLE} alone")
+        return
+    if request.has(HTML) or {PROGRESS, MEMORY}.intersection(words) or any(one.letter == "R" for one in request.filters):
+        raise NoWords(f"{SAMPLE} goes with no page, no bound of states and no anomaly")
+    if not request.has(ALL_ORDERS):
+        request.filters.append(Filter("not-sent", False))
 
 
 def request_of(words):
@@ -151,11 +166,16 @@ def request_of(words):
         elif word == EXPECT and left:
             request.expectations.append(take_values(left))
         elif word == MEMORY and left:
-            check_memory(left.pop(0))
+            number_in(left.pop(0), 1, MOST_MEMORY)
+        elif word == SAMPLE and left and request.sample is None:
+            request.sample = number_in(left.pop(0), 1, MOST_SAMPLE)
+        elif word == SEED and left:
+            request.seed = number_in(left.pop(0), 0, MOST_SEED)
         elif word != PROGRESS:
             raise NoWords(f"{word} is no option")
     if not request.has(ALL_ORDERS) and any(one.letter == "N" for one in request.filters):
         raise NoWords(f"--not-sent goes with {ALL_ORDERS} alone")
     if request.has(HTML) and any(map(request.has, NOT_OF_PAGES)):
         raise NoWords(f"{HTML} goes with no other form")
+    check_sample(request, words)
     return request

@@ -52,6 +52,8 @@ def classes_value(page, statements):
     """What stands in the object, beside these statements of each step."""
     spec, request = page.classes.spec, page.request
     value = {"format": FORMAT, "name": page.path, "orders": page.classes.orders, "asked": page.orders}
+    if page.is_sample:
+        value["sample"] = {"seed": request.seed, "seen_once": page.seen_once()}
     if page.by == BY_OUTCOMES:
         value["missing"] = missing_value(page)
     value |= {

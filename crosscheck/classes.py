@@ -20,7 +20,8 @@ from moments import shown
 from orders import spelled
 from queries import NoQuery, query_of, rows_in, seen
 from refusal import Refusal
-from schedules import Ending, by_layers, in_order, one_by_one, serial_results
+from sampling import drawn_ranks, interval_text
+from schedules import Ending, by_layers, by_ranks, in_order, one_by_one, serial_results
 from shown import LEFT_IN, cut, level_lines, lines_with_levels, marks, row_text, statements_of, visible
 from spec_file import read_spec
 
@@ -32,7 +33,8 @@ WORDS = {
     "S": "a session waits for ever",
     "R": "anomaly: no error, yet no serial order gives this result",
 }
-NOT_KNOWN = "anomaly: not known for permutation lines"
+NOT_KNOWN, NOT_KNOWN_OF_SAMPLES = "anomaly: not known for permutation lines", "anomaly: not known for samples"
+INTERVAL = "95% interval"
 OF_SENT, OF_ALL, OF_RESULTS = "WDESR", "WDENSR", "DESR"
 MEANINGS = {":": "waits", "!": "fails", "-": "is not sent"}
 OF_NAME = 24
@@ -55,19 +57,26 @@ class OrderClass:
 class OrderClasses:
     """The classes of a spec: of the orders that clients can send, or of all permutations. Of a file with permutation lines those of its lines."""
 
-    def __init__(self, spec, all_orders):
-        self.spec, self.all_orders, self.known = spec, all_orders, {}
+    def __init__(self, spec, all_orders, sample=None):
+        self.spec, self.all_orders, self.sample, self.known = spec, all_orders, sample, {}
         self.is_lined = spec.lines is not None
-        self.serial = set() if self.is_lined else serial_results(spec)
-        self.endings = in_order((one_by_one if self.is_lined else by_layers)(spec, all_orders))
+        self.has_anomalies = not self.is_lined and sample is None
+        self.serial = serial_results(spec) if self.has_anomalies else set()
+        self.endings = in_order(self.counted())
         self.all = [self.of_ending(ending, counted) for ending, counted in self.endings.items()]
+
+    def counted(self):
+        """Of each ending how many orders have it, and the least rank. A sample has a number of orders and a seed."""
+        if self.sample is not None:
+            return by_ranks(self.spec, drawn_ranks(self.sample[1], self.sample[0], self.spec.ranks()))
+        return (one_by_one if self.is_lined else by_layers)(self.spec, self.all_orders)
 
     @property
     def orders(self):
         return sum(one.orders for one in self.all)
 
     def of_ending(self, ending, counted):
-        letters = ending.letters | ({"R"} if not self.is_lined and ending.is_anomaly(self.serial) else set())
+        letters = ending.letters | ({"R"} if self.has_anomalies and ending.is_anomaly(self.serial) else set())
         return OrderClass(ending, counted.orders, counted.first_rank, Counter(dict.fromkeys(letters, counted.orders)))
 
     def asked(self, request):
@@ -158,9 +167,11 @@ class ClassPage:
 
     def remarks(self):
         """What the head says of the orders behind their numbers."""
+        if self.is_sample:
+            yield f"sample of all permutations, seed {self.request.seed}"
         if self.classes.all_orders:
             dropped = sum(one.letters["N"] for one in self.rows)
-            yield from ["all permutations"] * (not self.classes.is_lined)
+            yield from ["all permutations"] * self.classes.has_anomalies
             if dropped:
                 yield f"{number(dropped)} {'contains' if dropped == 1 else 'contain'} a step that is not sent"
         if self.request.filters:
@@ -172,6 +183,17 @@ class ClassPage:
         remarks = "; ".join(self.remarks())
         yield f"{visible(self.path)}: {some}{orders} in {number_of(len(self.rows), self.one, self.more)}" + (f" ({remarks})" if remarks else "")
         yield from level_lines(self.lines_with_levels)
+        if self.is_sample and self.orders:
+            unseen = share(self.seen_once(), self.orders)
+            yield f"Shares have 95% intervals by Wilson. About {unseen} of such orders are in classes not seen (Good and Turing)."
+
+    @property
+    def is_sample(self):
+        return self.request.sample is not None
+
+    def seen_once(self):
+        """How many classes have one order."""
+        return sum(one.orders == 1 for one in self.rows)
 
     # expectations
 
@@ -199,7 +221,7 @@ class ClassPage:
             head, missing = f"expect {expected.select} = {', '.join(expected.values)}", self.missing(expected)
             of = f"of {number_of(self.orders, 'order', 'orders')}"
             if not missing:
-                yield visible(f"{head}: holds in {number(self.orders)} {of}")
+                yield visible(f"{head}: {f'no counterexample in {of[3:]}' if self.is_sample else f'holds in {number(self.orders)} {of}'}")
                 continue
             yield visible(head)
             yield f"  FAILED in {number(sum(one.orders for one in missing))} {of}"
@@ -210,18 +232,27 @@ class ClassPage:
 
     def total(self, letter):
         """How many orders have a letter, and how many classes; none where it is not known."""
-        if letter not in self.letters or (letter == "R" and self.classes.is_lined):
+        if letter not in self.letters or (letter == "R" and not self.classes.has_anomalies):
             return None
         return sum(one.letters[letter] for one in self.rows), sum(letter in one.letters for one in self.rows)
 
     def total_cells(self, letter):
         total = self.total(letter)
         if total is None:
-            return [f"  {letter} ", "-", "-", "-", NOT_KNOWN]
-        return [f"  {letter} ", number(total[0]), share(total[0], self.orders), number(total[1]), WORDS[letter]]
+            return [f"  {letter} ", "-", "-", *self.of_sample("-"), "-", NOT_KNOWN_OF_SAMPLES if self.is_sample else NOT_KNOWN]
+        return [f"  {letter} ", *self.counted(total[0]), number(total[1]), WORDS[letter]]
+
+    def of_sample(self, cell):
+        """A cell that samples have."""
+        return [cell] if self.is_sample else []
+
+    def counted(self, orders):
+        """The cells of a number of orders."""
+        return [number(orders), share(orders, self.orders), *self.of_sample(interval_text(self.orders, orders))]
 
     def total_lines(self):
-        yield from table_lines([["", "orders", "share", self.more, ""], *map(self.total_cells, self.letters)], {1, 2, 3})
+        head = ["", "orders", "share", *self.of_sample(INTERVAL), self.more, ""]
+        yield from table_lines([head, *map(self.total_cells, self.letters)], {*range(1, len(head) - 1)})
 
     # classes
 
@@ -230,13 +261,13 @@ class ClassPage:
         return "".join(letter if letter in one.letters else "." for letter in self.letters)
 
     def class_cells(self, place, one):
-        counted = [number(one.orders), share(one.orders, self.orders)]
-        return [f"{place}", *counted, self.letters_of(one), f"{one.first_rank}", " ".join(self.classes.steps(one))]
+        return [f"{place}", *self.counted(one.orders), self.letters_of(one), f"{one.first_rank}", " ".join(self.classes.steps(one))]
 
     def class_lines(self):
         if self.rows:
-            head = [self.one, "orders", "share", self.letters, "rank", "first order"]
-            first, *lines = table_lines([head, *(self.class_cells(place, one) for place, one in enumerate(self.rows, 1))], {0, 1, 2, 4})
+            head = [self.one, "orders", "share", *self.of_sample(INTERVAL), self.letters, "rank", "first order"]
+            to_right = {*range(len(head))} - {len(head) - 3}
+            first, *lines = table_lines([head, *(self.class_cells(place, one) for place, one in enumerate(self.rows, 1))], to_right)
             yield first
             for line, one in zip(lines, self.rows, strict=True):
                 yield line
@@ -307,15 +338,16 @@ class Asking:
     def spec(self):
         return bind(self.file)
 
-    def classes(self, all_orders):
-        if all_orders not in self.known:
-            self.known[all_orders] = OrderClasses(self.spec, all_orders)
-        return self.known[all_orders]
+    def classes(self, all_orders, sample=None):
+        if (all_orders, sample) not in self.known:
+            self.known[all_orders, sample] = OrderClasses(self.spec, all_orders, sample)
+        return self.known[all_orders, sample]
 
     def page(self, path, request):
         """Raises a Refusal where the text has no spec or does not start, NotAsked or NoQuery where the request is not one of this spec."""
         request.check(self.spec)
-        return ClassPage(self.classes(request.has(ALL_ORDERS)), path, request, lines_with_levels(self.text, self.file))
+        sample = None if request.sample is None else (request.sample, request.seed)
+        return ClassPage(self.classes(request.has(ALL_ORDERS), sample), path, request, lines_with_levels(self.text, self.file))
 
     def printed(self, page):
         """A page in the form that is asked for."""

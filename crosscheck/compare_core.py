@@ -41,7 +41,7 @@ def line_of(fault, name):
     if fault["fault"] in {"spec", "sql", "bind", "start"}:
         return f"{where}{fault['fault']} error {fault['kind']} at {fault['place']}\n"
     if fault["fault"] == "states":
-        return f"{where}too many different states: more than {fault['place']}\n"
+        return f"{where}too many different states: more than {fault['place']}; classes --sample N looks at random orders\n"
     return {"range": f"{where}rank out of range\n", "memory": "isofarm: no memory\n"}.get(fault["fault"], str(fault))
 
 

@@ -34,7 +34,7 @@ FAULTS = [
     (3, "no such line", NAMED, {"rank", "show"}),
     (3, f"no session {NAME}", NAMED, {"classes"}),
     (3, "no serial orders", NAMED, {"classes"}),
-    (3, f"too many different states: more than {N}", NAMED, {"classes"}),
+    (3, f"too many different states: more than {N}; classes --sample N looks at random orders", NAMED, {"classes"}),
     (3, f"{NAME}: (?:sql error [1-6] at {N}|not one SELECT|bind error [234] at {N}|no value)", UNNAMED, {"classes"}),
     (3, "shard error [12]", NAMED, {"run"}),
     (3, "book error [1-8]", NAMED, OF_BOOKS),
@@ -50,7 +50,8 @@ FAULTS = [
 ]
 LEVELS = rb"(?:locking: strict two-phase locking; isolation levels? \(lines? %(n)s(?:, %(n)s)*\) (?:has|have) no effect\n)?"
 FAULTS = [(status, re.compile(text), is_named, commands) for status, text, is_named, commands in FAULTS]
-CLASSES_HEAD = rb"[^\n]+: (?:%(m)s of )?%(m)s orders? in %(m)s (?:class(?:es)?|results?)(?: \([^\n]*\))?\n" + LEVELS
+UNSEEN = rb"(?:Shares have 95%% intervals by Wilson\. About <?[\d.]+%% of such orders are in classes not seen \(Good and Turing\)\.\n)?"
+CLASSES_HEAD = rb"[^\n]+: (?:%(m)s of )?%(m)s orders? in %(m)s (?:class(?:es)?|results?)(?: \([^\n]*\))?\n" + LEVELS + UNSEEN
 # An object of classes, and one with expectations; what stands before it and behind it on a page.
 OBJECT, EXPECTING = rb'\{"format":2,[^\n]*\}', rb'\{"format":2,[^\n]*"expectations":\[\{[^\n]*\}'
 PAGE_FRONT, PAGE_BACK = rb'<!doctype html>\n.+<script type="application/json" id="classes">', rb"</script><script.+</html>\n"
@@ -60,7 +61,7 @@ BOOK = rb'\{"facts":\[.*\],"format":2,"outcomes":\[.*\],"spec":".*"\}\n'
 DIFFERING = (b"orders", b"letters", b"results left out", b"gone", b"new", b"other numbers")
 DIFFERS = rb"differs: results gone %(n)s, new %(n)s, with other numbers %(n)s" + b"".join(rb"(?:\n  " + part + rb"(?:\n    [^\n]+)+)?" for part in DIFFERING)
 NO_RESULT = rb"(?:only the head of the record differs|differs, and what is accepted is no record of this version)"
-REFUSED = rb"(?:(?:spec error [1-9]|sql error [1-7]|bind error [2-8]|start error [1-3]) at %(n)s|too many different states: more than %(n)s)"
+REFUSED = rb"(?:(?:spec error [1-9]|sql error [1-7]|bind error [2-8]|start error [1-3]) at %(n)s|too many different states: more than %(n)s; classes --sample N looks at random orders)"
 IDLE = [b"isolation level", b"SET", b"NOT NULL", b"teardown", b"marker"]
 # What stands on standard output where no fault is told.
 ANSWERS = {

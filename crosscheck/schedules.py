@@ -136,6 +136,25 @@ def one_by_one(spec, all_orders):
     return endings
 
 
+# ---- by ranks
+
+
+def ending_at(spec, rank):
+    """How the order of a rank ends."""
+    world = start(spec)
+    for step in spec.line(rank):
+        world.send(step)
+    return ending_of(world)
+
+
+def by_ranks(spec, ranks):
+    """Of each ending how many of these ranks have it, and the least of them."""
+    endings = {}
+    for rank in ranks:
+        endings.setdefault(ending_at(spec, rank), Counted(0, rank)).orders += 1
+    return endings
+
+
 # ---- by layers
 
 

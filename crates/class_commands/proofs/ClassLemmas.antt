@@ -20,7 +20,6 @@ use Rattle.order_classes.specs.declared.rows.ClassRow.{ClassRow}
 use Rattle.spec_texts.specs.Levels.{AreLevelLines}
 use Rattle.spec_texts.specs.Texts.{Declares}
 use Rattle.class_looks.specs.Seeing.{told_by}
-use Rattle.class_rows.specs.Pages.{IsClassed}
 use Rattle.class_rows.specs.declared.rows.Classed.{Classed}
 use Rattle.class_texts.specs.Expected.{is_met, meets}
 use Rattle.class_texts.specs.Laws.{OneRowIsMet}
@@ -31,7 +30,7 @@ use Rattle.book_commands.specs.declared.finding.Finding.TheVariants.{Good, Bad}
 use Rattle.class_commands.specs.declared.asking.AskedSpec.{AskedSpec}
 use Rattle.class_commands.specs.declared.classing.ClassesFault.{ClassesFault}
 use Rattle.class_commands.specs.declared.classing.ClassesFault.TheVariants.{Spec, Asked, Run, TooMany, NoMemory, Write}
-use Rattle.class_commands.specs.Classing.{HasManyStates, IsClassesRun, IsFinding, IsMet, IsNotTold, IsTellingOf, expectation_over, grouping, kind_by, page_of, seen_of}
+use Rattle.class_commands.specs.Classing.{AreCounted, HasManyStates, IsClassesRun, IsFinding, IsMet, IsNotTold, IsTellingOf, expectation_over, grouping, kind_by, page_of, seen_of}
 use Rattle.class_commands.specs.Opened.{IsWrittenAs}
 use Rattle.class_commands.specs.Parts.{IsAskedSpec, IsNotAskedSpec, IsNotFound, IsTextOf, Writes, finding_by}
 
@@ -45,7 +44,7 @@ text-is text file is =
     cc (c.1.1)
 
 module _ {W : Type 0} (contents : W → Option (List ℕ)) (old new : Counted W) (bytes path : List ℕ) (wanted : WantedClasses) (a : AskedSpec)
-    (is : IsAskedSpec bytes wanted a) (classed : Classed) (are : IsClassed (kind_by wanted.all_orders) a.tables.items a.spec.run a.asked.filters.items (grouping wanted.by_result) classed)
+    (is : IsAskedSpec bytes wanted a) (classed : Classed) (are : AreCounted wanted.sample (kind_by wanted.all_orders) a.tables.items a.spec.run a.asked.filters.items (grouping wanted.by_result) classed)
     (world : World) (starts : start a.spec.run ≡ Started world) where
   abbrev telling : (text : List ℕ) → IsTextOf path a.spec a.tables.items wanted a.asked classed text → IsTellingOf bytes path wanted text
   telling text is-text =

@@ -1,3 +1,4 @@
 mod ClassLemmas
 mod BookLemmas
 mod OpenedLemmas
+mod SampleLemmas

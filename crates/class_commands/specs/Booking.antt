@@ -1,5 +1,5 @@
 -- What is written of the classes of books, from the bytes of their files.
-use Rattle.std.specs.Prelude.{◌≡◌, ℕ, ◌==◌, cond, false, List, [], ◌++◌, get_or, length, Option, Result, Ok, Err, codes, decimal, ⊤}
+use Rattle.std.specs.Prelude.{◌≡◌, ℕ, ◌==◌, cond, false, List, [], ◌++◌, get_or, length, Option, None, Result, Ok, Err, codes, decimal, ⊤}
 use Rattle.std.specs.Option.{is_some}
 use Rattle.bound_specs.specs.Spec.{SpecFile, ranks}
 use Rattle.transcripts.specs.Counted.{Wrote, Stopped}
@@ -27,6 +27,7 @@ outcomes_page paths file levels x wanted runs = record {
   path = books_name paths;
   orders = ranks file.run;
   all_orders = false;
+  sample = None;
   sessions = file.session_names;
   steps = file.step_names;
   tables = [];

@@ -1,7 +1,8 @@
 -- What is written of the classes of a spec, from the bytes of its file.
-use Rattle.std.specs.Prelude.{◌≡◌, ◌↔◌, ℕ, Bool, true, false, cond, List, [], ◌∷◌, ◌++◌, map, flat_map, codes, All, Option, None, Result, Ok, Err}
+use Rattle.std.specs.Prelude.{◌≡◌, ◌↔◌, ℕ, max, Bool, true, false, cond, List, [], ◌∷◌, ◌++◌, get_or, map, flat_map, codes, All, Option, Some, None, Result, Ok, Err}
+use Rattle.std.specs.List.Sorted.{IsNonDecreasingBy}
 use Rattle.binding_model.specs.declared.tables.Table.{Table}
-use Rattle.bound_specs.specs.Spec.{SpecFile}
+use Rattle.bound_specs.specs.Spec.{Spec as Steps, SpecFile, ranks as ranks_of}
 use Rattle.bound_specs.specs.Binding.{IsFileOf}
 use Rattle.bound_statements.specs.declared.statement.Bound.{Bound}
 use Rattle.machine_model.specs.Start.{Started, start}
@@ -15,11 +16,14 @@ use Rattle.spec_binding.specs.SpecFiles.{IsNoSpec}
 use Rattle.spec_texts.specs.Levels.{AreLevelLines}
 use Rattle.spec_texts.specs.Texts.{Declares}
 use Rattle.order_classes.specs.Looks.{one_row}
+use Rattle.order_classes.specs.declared.letters.Filter.{Filter}
 use Rattle.order_classes.specs.declared.rows.ClassRow.{ClassRow}
 use Rattle.order_classes.specs.declared.rows.Grouping.{Grouping}
 use Rattle.order_classes.specs.declared.rows.Grouping.TheVariants as by
 use Rattle.spec_schedules.specs.declared.kind.Kind.{Kind}
 use Rattle.spec_schedules.specs.declared.kind.Kind.TheVariants.{Permutations, Schedules}
+use Rattle.spec_classes.specs.Classes.{drawn}
+use Rattle.spec_classes.specs.Drawing.{AreDrawn}
 use Rattle.class_rows.specs.Pages.{IsClassed}
 use Rattle.class_rows.specs.declared.rows.Classed.{Classed}
 use Rattle.class_looks.specs.Seeing.{told_by, sees}
@@ -29,6 +33,7 @@ use Rattle.class_texts.specs.Letters.{kind_of}
 use Rattle.class_texts.specs.Pages.{Page}
 use Rattle.wanted_classes.specs.declared.wanted.WantedClasses.{WantedClasses}
 use Rattle.wanted_classes.specs.declared.wanted.WantedFilter.{WantedFilter}
+use Rattle.wanted_classes.specs.declared.wanted.WantedSample.{WantedSample}
 use Rattle.wanted_classes.specs.declared.wanted.WantedTest.{WantedTest}
 use Rattle.wanted_classes.specs.declared.wanted.WantedTest.TheVariants as wanted
 use Rattle.asked_classes.specs.declared.asking.AskedClasses.{AskedClasses}
@@ -82,6 +87,11 @@ look_over rows a = record { text = a.text.now; seen = map (seen_of a.look) rows 
 abbrev pub expectation_over : List ClassRow → AskedExpectation → Expectation
 expectation_over rows a = record { text = a.text.now; values = a.values.items; seen = map (seen_of a.look) rows }
 
+-- the seed of a sample
+abbrev pub seed_of : Option WantedSample → Option ℕ
+seed_of None = None
+seed_of (Some sample) = Some sample.seed
+
 abbrev pub has_some : {X : Type 0} → List X → Bool
 has_some [] = false
 has_some (x ∷ xs) = true
@@ -93,6 +103,7 @@ page_of path file tables levels wanted asked x =
       path = path;
       orders = x.orders;
       all_orders = wanted.all_orders;
+      sample = seed_of wanted.sample;
       sessions = file.session_names;
       steps = file.step_names;
       tables = tables;
@@ -122,6 +133,33 @@ IsMet rows a = All (λ row. seen_of a.look row ≡ told_by (one_row a.values.ite
 abbrev pub IsFinding : List ClassRow → List AskedExpectation → Finding → Type 0
 IsFinding rows expectations finding = (finding ≡ Good) ↔ All (IsMet rows) expectations
 
+-- ---- the orders that are counted
+
+-- all orders of the spec; or those of ranks that were drawn, one at least, each of which counts by itself, in rising order
+abbrev pub IsCounted : Option WantedSample → Steps → List ℕ → Steps → Type 0
+IsCounted None run ranks counted = counted ≡ run
+IsCounted (Some sample) run ranks counted =
+    AreDrawn (max 1 sample.orders) (ranks_of run) ranks × IsNonDecreasingBy (λ r. r) ranks × (counted ≡ drawn run ranks)
+
+-- the row with the rank that stands at its place
+abbrev pub with_rank : List ℕ → ClassRow → ClassRow
+with_rank ranks row = record { least = get_or ranks row.least 0; count = row.count; letters = row.letters; line = row.line; shows = row.shows }
+
+-- classes of drawn orders are told by their ranks, and not by their places among these: where the ranks rise, the first place of a class has its least rank
+abbrev pub IsToldOf : Option WantedSample → List ℕ → Classed → Classed → Type 0
+IsToldOf None ranks x told = told ≡ x
+IsToldOf (Some sample) ranks x told =
+    (told.orders ≡ x.orders) × (told.totals ≡ x.totals) × (told.rows.items ≡ map (with_rank ranks) x.rows.items)
+
+-- the orders that are counted, in classes, as they are told
+pub record AreCounted (sample : Option WantedSample) (kind : Kind) (tables : List Table) (run : Steps) (filters : List Filter) (by : Grouping) (told : Classed) : Type 0 where
+  pub ranks : List ℕ
+  pub counted : Steps
+  pub is_counted : IsCounted sample run ranks counted
+  pub placed : Classed
+  pub are : IsClassed kind tables counted filters by placed
+  pub is_told : IsToldOf sample ranks placed told
+
 -- ---- the text
 
 -- the text tells the classes of the orders that are asked for of the spec file that the bytes are, with the tables that its main setups declare
@@ -135,7 +173,7 @@ pub record IsTellingOf (bytes path : List ℕ) (wanted : WantedClasses) (text : 
   pub world : World
   pub starts : start file.run ≡ Started world
   pub classed : Classed
-  pub are : IsClassed (kind_by wanted.all_orders) tables file.run asked.filters.items (grouping wanted.by_result) classed
+  pub are : AreCounted wanted.sample (kind_by wanted.all_orders) tables file.run asked.filters.items (grouping wanted.by_result) classed
   pub levels : List ℕ
   pub are_levels : AreLevelLines bytes file levels
   pub written : IsWrittenAs wanted.form bytes file (page_of path file tables levels wanted asked classed) text

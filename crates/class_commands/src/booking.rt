@@ -119,6 +119,7 @@ fn outcomes_told(
         path: name.as_str(),
         orders: spec.ranks(),
         all_orders: false,
+        sample: None,
         sessions: spec.session_names(),
         steps: spec.step_names(),
         tables: &[],

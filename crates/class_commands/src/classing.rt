@@ -1,39 +1,42 @@
 //! Orders of a spec in classes, from the bytes of the spec to the text that is written.
 
-ghost use Rattle.std.specs.Prelude.{◌≡◌, ◌<◌, ℕ, IfErr, IfOk, List, false};
+ghost use Rattle.std.specs.Prelude.{◌≡◌, ◌<◌, ℕ, IfErr, IfOk, List};
+ghost use Rattle.binding_model.specs.declared.tables.Table.{Table as Declared};
 ghost use Rattle.machine_model.specs.Start.{Started, start};
 ghost use Rattle.machine_model.specs.World.{World};
 ghost use Rattle.spec_texts.specs.Texts.{Declares};
 ghost use Rattle.transcripts.specs.Counted.{failures_of};
 ghost use Rattle.class_rows.specs.Pages.{IsClassed};
-ghost use Rattle.class_rows.specs.Telling.{AreSerialOf};
-ghost use Rattle.class_commands.specs.Classing.{IsClassesRun, IsFinding, grouping, kind_by};
+ghost use Rattle.class_rows.specs.Telling.{AreFound, IsSerialOf};
+ghost use Rattle.class_commands.specs.Classing.{AreCounted, IsClassesRun, IsFinding, grouping, kind_by};
 ghost use Rattle.class_commands.specs.Opened.{HasOrders};
-ghost use Rattle.bound_specs.specs.Spec.{SpecFile};
+ghost use Rattle.bound_specs.specs.Spec.{Spec as Run, SpecFile};
+ghost use Rattle.spec_schedules.specs.declared.kind.Kind.{Kind as Sort};
 ghost use Rattle.class_commands.specs.Parts.{IsAskedSpec, IsNotCounted, IsNotFound, IsTextOf, Writes};
 
 use crate::asking::{AskedSpec, asked_spec};
 use crate::opened::orders_for;
-use crate::progress::StatesProgress;
+use crate::progress::{StatesProgress, Telling};
+use crate::sampling::drawn_from;
 use crate::telling::told;
 use asked_classes::{AskedClasses, AskedFault};
 use binding_model::Table;
 use book_commands::Finding;
 use bound_specs::Spec;
-use class_rows::{Asked, Classed, FoundOrders, classed};
+use class_rows::{Asked as Given, Classed, FoundOrders, classed};
 use different_shows::Different;
-use order_classes::{Filter, Grouping};
+use order_classes::Grouping;
 use schedule_counts::{StatesError, Unwatched, Watch};
 use session_machine::RunError;
 use session_steps::StartError;
 use spec_binding::SpecFault;
-use spec_classes::{classes_of, serial_answers};
+use spec_classes::{OrderClass, classes_of, serial_answers};
 use spec_schedules::Kind;
 use std::alloc::{AllocError, Global};
 use std::io::Write;
 use std::time::Clock;
 use transcripts::{Counted, WriteFault};
-use wanted_classes::WantedClasses;
+use wanted_classes::{WantedClasses, WantedSample};
 
 /// Why classes were not written. Each is tried before those below it, but for want of memory.
 #[derive(Clone, Copy, Drop)]
@@ -76,28 +79,28 @@ pub fn classes<'a, V: Watch, W: Write>(
     tell(alloc, &asked, path, wanted, &found, out)
 }
 
-/// Does as `classes`, and tells on `err` how far it is where that is wanted. What is not written there is no fault.
+/// Does as `classes`, and tells on `err` how far it is, as is wanted. What is not written there is no fault.
 pub fn classes_told<'a, C: Clock, W: Write, E: Write>(
     clock: &C,
     alloc: Global,
     bytes: &[u8],
     path: &str,
     wanted: &WantedClasses<'a>,
-    is_told: bool,
+    telling: Telling,
     out: &mut Counted<W>,
     err: &mut Counted<E>,
 ) -> Result<Finding, ClassesFault<'a>>
     requires { failures_of out.old < u64.MAX }
     ensures run { IsClassesRun W.contents out.old out.new bytes.now path.now wanted.now result }
-    ensures quiet { is_told ≡ false → err.new ≡ err.old }
+    ensures quiet { telling ≡ Telling.Silent → err.new ≡ err.old }
 {
-    if !is_told {
-        return classes(alloc, bytes, path, wanted, &Unwatched, out);
-    }
-    let progress = StatesProgress::new(clock, alloc, err);
-    let result = classes(alloc, bytes, path, wanted, &progress, out);
-    progress.close();
-    result
+    let is_one_line = match telling {
+        Telling::Silent => return classes(alloc, bytes, path, wanted, &Unwatched, out),
+        Telling::Lines => false,
+        Telling::OneLine => true,
+    };
+    let progress = StatesProgress::new(clock, alloc, is_one_line, err);
+    classes(alloc, bytes, path, wanted, &progress, out)
 }
 
 pub(crate) fn grouping(by_result: bool) -> Grouping
@@ -117,7 +120,7 @@ fn found_of<'a, V: Watch>(
     wanted: &WantedClasses<'a>,
     watch: &V,
 ) -> Result<Classed, ClassesFault<'a>>
-    ensures found { IfOk result (IsClassed (kind_by wanted.now.all_orders) asked.now.tables.items asked.now.spec.run asked.now.asked.filters.items (grouping wanted.now.by_result)) }
+    ensures found { IfOk result (AreCounted wanted.now.sample (kind_by wanted.now.all_orders) asked.now.tables.items asked.now.spec.run asked.now.asked.filters.items (grouping wanted.now.by_result)) }
     ensures starts { IfOk result (λ _. (w : World) × (start asked.now.spec.run ≡ Started w)) }
     ensures refused { IfErr result (IsNotFound asked.now.spec) }
 {
@@ -127,9 +130,11 @@ fn found_of<'a, V: Watch>(
         kind: kind_by(wanted.all_orders),
         room: room_of(wanted.memory),
     };
-    let by = grouping(wanted.by_result);
-    let filters = asked.asked.filters.as_slice();
-    match found_in(alloc, explored, by, filters, watch) {
+    let given = Given {
+        by: grouping(wanted.by_result),
+        filters: asked.asked.filters.as_slice(),
+    };
+    match counted(alloc, wanted.sample, explored, given, watch) {
         Ok(found) => Ok(found),
         Err(error) => Err(fault_of(error)),
     }
@@ -149,11 +154,11 @@ fn fault_of<'a>(error: StatesError) -> ClassesFault<'a>
 
 /// The spec whose orders of a kind are explored, with its tables and the bytes that different states may take.
 #[derive(Clone, Copy)]
-struct Explored<'a> {
-    spec: &'a Spec,
-    tables: &'a [Table],
-    kind: Kind,
-    room: usize,
+pub(crate) struct Explored<'a> {
+    pub(crate) spec: &'a Spec,
+    pub(crate) tables: &'a [Table],
+    pub(crate) kind: Kind,
+    pub(crate) room: usize,
 }
 
 /// All permutations, or those orders alone that clients can send.
@@ -172,15 +177,32 @@ fn room_of(megabytes: u64) -> usize {
     (megabytes as usize).saturating_mul(1_000_000)
 }
 
+/// All orders of a spec that are asked for, in classes, or those of a sample.
+fn counted<V: Watch>(
+    alloc: Global,
+    sample: Option<WantedSample>,
+    explored: Explored<'_>,
+    asked: Given<'_>,
+    watch: &V,
+) -> Result<Classed, StatesError>
+    ensures found { IfOk result (AreCounted sample explored.entry.kind explored.entry.tables.now explored.entry.spec.now.run asked.entry.filters.now asked.entry.by) }
+    ensures starts { IfOk result (λ _. (w : World) × (start explored.entry.spec.now.run ≡ Started w)) }
+    ensures refused { IfErr result (IsNotCounted explored.entry.spec.now) }
+{
+    match sample {
+        None => found_in(alloc, explored, asked, watch),
+        Some(sample) => drawn_from(alloc, sample, explored, asked),
+    }
+}
+
 /// What is found of the orders of a spec that pass filters.
 fn found_in<V: Watch>(
     alloc: Global,
     explored: Explored<'_>,
-    by: Grouping,
-    filters: &[Filter],
+    asked: Given<'_>,
     watch: &V,
 ) -> Result<Classed, StatesError>
-    ensures found { IfOk result (IsClassed explored.entry.kind explored.entry.tables.now explored.entry.spec.now.run filters.now by) }
+    ensures found { IfOk result (IsClassed explored.entry.kind explored.entry.tables.now explored.entry.spec.now.run asked.entry.filters.now asked.entry.by) }
     ensures starts { IfOk result (λ _. (w : World) × (start explored.entry.spec.now.run ≡ Started w)) }
     ensures refused { IfErr result (IsNotCounted explored.entry.spec.now) }
 {
@@ -198,32 +220,44 @@ fn found_in<V: Watch>(
         Ok(serial) => serial,
         Err(error) => return Err(error),
     };
-    let found = FoundOrders {
-        spec,
-        tables,
-        kind,
-        classes: classes.as_slice(),
-        serial: &serial,
-    };
-    match classed(alloc, &found, Asked { by, filters }) {
+    told_with(alloc, classes.as_slice(), serial.as_ref(), asked)
+}
+
+/// What is told of classes, beside what the serial orders of their spec answer.
+fn told_with<'a>(
+    alloc: Global,
+    classes: &'a [OrderClass],
+    serial: Option<&'a Different>,
+    asked: Given<'_>,
+) -> Result<Classed, StatesError>
+    requires { (kind : Sort) × (tables : List Declared) × (run : Run) × AreFound kind tables run (record { classes = classes; serial = serial }) }
+    ensures told { (kind : Sort) (tables : List Declared) (run : Run) → AreFound kind tables run (record { classes = classes.entry; serial = serial.entry })
+        → IfOk result (IsClassed kind tables run asked.entry.filters.now asked.entry.by) }
+    ensures refused { (file : SpecFile) → IfErr result (IsNotCounted file) }
+{
+    let found = FoundOrders { classes, serial };
+    match classed(alloc, &found, asked) {
         Ok(classed) => Ok(classed),
         Err(_) => Err(StatesError::Memory),
     }
 }
 
-/// What the serial orders of a spec answer: nothing of one with permutation lines.
+/// What the serial orders of a spec answer: nothing is told of one with permutation lines.
 fn serial_of(
     alloc: Global,
     spec: &Spec,
     tables: &[Table],
     room: usize,
-) -> Result<Different, StatesError>
-    ensures answers { IfOk result (AreSerialOf tables.now spec.now.run) }
+) -> Result<Option<Different>, StatesError>
+    ensures answers { IfOk result (λ serial. IsSerialOf tables.now spec.now.run serial) }
     ensures refused { IfErr result (IsNotCounted spec.now) }
 {
     match spec.shape() {
-        Some(_) => serial_answers(alloc, spec, tables, room),
-        None => Ok(Different::new(alloc)),
+        Some(_) => match serial_answers(alloc, spec, tables, room) {
+            Ok(answers) => Ok(Some(answers)),
+            Err(error) => Err(error),
+        },
+        None => Ok(None),
     }
 }
 
@@ -238,7 +272,7 @@ fn tell<'a, W: Write>(
 ) -> Result<Finding, ClassesFault<'a>>
     requires fresh { failures_of out.old < u64.MAX }
     requires tables { Declares asked.now.spec.text asked.now.spec asked.now.tables.items }
-    requires found { IsClassed (kind_by wanted.now.all_orders) asked.now.tables.items asked.now.spec.run asked.now.asked.filters.items (grouping wanted.now.by_result) found.now }
+    requires found { AreCounted wanted.now.sample (kind_by wanted.now.all_orders) asked.now.tables.items asked.now.spec.run asked.now.asked.filters.items (grouping wanted.now.by_result) found.now }
     requires starts { (w : World) × (start asked.now.spec.run ≡ Started w) }
     ensures { (bytes : List ℕ) → IsAskedSpec bytes wanted.now asked.now → IsClassesRun W.contents out.old out.new bytes path.now wanted.now result }
 {

@@ -7,9 +7,11 @@ mod classing;
 mod filters;
 mod opened;
 mod progress;
+mod sampling;
 mod telling;
 mod written;
 
 pub use booking::{BookClassesFault, book_classes};
 pub use classing::{ClassesFault, classes, classes_told};
 pub use opened::MAX_SHOWN;
+pub use progress::Telling;

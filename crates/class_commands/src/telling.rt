@@ -3,7 +3,7 @@
 ghost use Rattle.std.specs.Prelude.{◌≡◌, IfOk, map};
 ghost use Rattle.std.specs.List.{list_all};
 ghost use Rattle.class_texts.specs.Expected.{is_met};
-ghost use Rattle.class_commands.specs.Classing.{IsFinding, expectation_over, has_some, look_over, seen_of};
+ghost use Rattle.class_commands.specs.Classing.{IsFinding, expectation_over, has_some, look_over, seed_of, seen_of};
 ghost use Rattle.class_commands.specs.Parts.{IsTextOf, finding_by};
 ghost use Rattle.class_commands.specs.Written.{written_bytes};
 ghost use Rattle.class_commands.specs.Opened.{HasOrders};
@@ -23,7 +23,7 @@ use events::Event;
 use order_classes::{ClassRow, Filter};
 use spec_texts::level_lines;
 use std::alloc::{AllocError, Global};
-use wanted_classes::WantedClasses;
+use wanted_classes::{WantedClasses, WantedSample};
 
 /// What is written of what is found, with these orders where the form has any, and whether all is as expected.
 pub(crate) fn told<'a>(
@@ -50,6 +50,7 @@ pub(crate) fn told<'a>(
         path,
         orders: found.orders,
         all_orders: wanted.all_orders,
+        sample: seed_of(wanted.sample),
         sessions: spec.session_names(),
         steps: spec.step_names(),
         tables,
@@ -70,6 +71,15 @@ pub(crate) fn told<'a>(
     };
     let written = written_as(alloc, spec, &page, wanted.form, orders)?;
     Ok((written, finding_of(expectations.as_slice())))
+}
+
+fn seed_of(sample: Option<WantedSample>) -> Option<u64>
+    ensures { result ≡ seed_of sample }
+{
+    match sample {
+        None => None,
+        Some(sample) => Some(sample.seed),
+    }
 }
 
 fn has_some(filters: &[Filter]) -> bool

@@ -1,3 +1,4 @@
 pub mod Picked
 pub mod ExpectedLemmas
 pub mod BookLemmas
+mod DrawnLemmas

@@ -1,5 +1,6 @@
 -- What is told of classes is told of their orders.
 use Rattle.std.proofs.Common.{◌≡◌, ◌≢◌, ◌↔◌, refl, sym, ap, ◌∙◌, subst, ℕ, suc, ◌+◌, ◌<◌, ◌≤◌, Bool, true, false, cond, List, [], ◌∷◌, map, slice_get, Option, Some, None, ◌⊎◌, inl, inr, ⊎_elim, arith}
+use Rattle.std.specs.Option.{is_some}
 use Rattle.lock_queues.specs.Reasons.{Among}
 use Rattle.binding_model.specs.declared.tables.Table.{Table}
 use Rattle.bound_specs.specs.Spec.{Spec}
@@ -20,7 +21,7 @@ use Rattle.class_rows.specs.declared.letters.Letter.TheVariants as letter
 use Rattle.class_rows.specs.declared.passing.Passing.{Passing}
 use Rattle.class_rows.specs.declared.rows.Classed.{Classed}
 use Rattle.class_rows.specs.Pages.{told_by, letters_of, AreLetters, has_r, AreTotals, IsAskedWith, IsClassed, IsJoined, IsRow, IsTotal}
-use Rattle.class_rows.specs.Telling.{has_letter, count_of, orders_with, total_by, totals_by, unless_lines, AreAdded, ArePassing, AreRowsOf, IsInRow, IsLettered, IsRowOf}
+use Rattle.class_rows.specs.Telling.{has_letter, count_of, orders_with, total_by, totals_by, where_told, IsSerialOf, AreAdded, ArePassing, AreRowsOf, IsInRow, IsLettered, IsRowOf}
 use Rattle.class_rows.proofs.Passes.{r-same, passing-each, passing-all}
 
 -- ---- how many orders classes with a letter have
@@ -181,8 +182,8 @@ module _ (kind : Kind) (tables : List Table) (run : Spec) (filters : List Filter
   r-is s None is = (λ h. absurd (let bad : false ≡ true = h in cc), λ odd. absurd (is odd.other.words))
   r-is s (Some odd) is = is.1
 
-  totals-told : (rows : List ClassRow) → AreTotals kind tables run filters rows (totals_by run ps rows)
-  totals-told rows = record {
+  totals-told : (serial : Option (List Shows)) → IsSerialOf tables run serial → (rows : List ClassRow) → AreTotals kind tables run filters rows (totals_by (is_some serial) ps rows)
+  totals-told serial of rows = record {
     all = total-told rows (has_letter letter.All) (λ s. Unit {0}) (λ s r is. (λ h. tt, λ u. refl));
     waits = total-told rows (has_letter letter.Waits) (λ s. letter_w s ≡ true) (λ s r is. (λ h. h, λ h. h));
     deadlock = total-told rows (has_letter letter.Deadlock) (λ s. letter_d s ≡ true) (λ s r is. (λ h. h, λ h. h));
@@ -191,19 +192,23 @@ module _ (kind : Kind) (tables : List Table) (run : Spec) (filters : List Filter
     stuck = total-told rows (has_letter letter.Stuck) (λ s. letter_s s ≡ true) (λ s r is. (λ h. h, λ h. h));
     not_serial = λ none. (
       total_by has_r ps rows,
-      ap (λ ls. unless_lines ls (total_by has_r ps rows)) none,
+      told serial of none,
       total-told rows has_r (LetterR tables run) r-is,
     );
-    not_told = λ some. not-told run.lines some;
+    not_told = λ some. not-told serial of some;
   }
     where
-      not-told : (ls : List (List ℕ)) → ls ≢ [] → unless_lines ls (total_by has_r ps rows) ≡ None
-      not-told [] some = absurd (some refl)
-      not-told (l ∷ ls) some = refl
+      told : (o : Option (List Shows)) → IsSerialOf tables run o → run.lines ≡ [] → where_told (is_some o) (total_by has_r ps rows) ≡ Some (total_by has_r ps rows)
+      told None is none = absurd (is none)
+      told (Some answers) is none = refl
 
-  pub all-told : (keys : List Shows) (x : Classed) → IsNumberOf (λ rank. (s : Shows) × ShowsAt kind tables run rank s) x.orders
-      → AreRowsOf kind tables run by ps keys x.rows.items → x.totals ≡ totals_by run ps x.rows.items → IsClassed kind tables run filters by x
-  all-told keys x orders rows totals = record {
+      not-told : (o : Option (List Shows)) → IsSerialOf tables run o → run.lines ≢ [] → where_told (is_some o) (total_by has_r ps rows) ≡ None
+      not-told None is some = refl
+      not-told (Some answers) is some = absurd (some is.0)
+
+  pub all-told : (serial : Option (List Shows)) → IsSerialOf tables run serial → (keys : List Shows) (x : Classed) → IsNumberOf (λ rank. (s : Shows) × ShowsAt kind tables run rank s) x.orders
+      → AreRowsOf kind tables run by ps keys x.rows.items → x.totals ≡ totals_by (is_some serial) ps x.rows.items → IsClassed kind tables run filters by x
+  all-told serial of keys x orders rows totals = record {
     orders = orders;
     each = λ row m. (let at = among-at x.rows.items row m in row-told row (rows.each at.0 row at.1));
     all = λ rank s shown passes.
@@ -212,5 +217,5 @@ module _ (kind : Kind) (tables : List Table) (run : Spec) (filters : List Filter
         (r.1, at-among x.rows.items r.0 r.1 r.2, ap (told_by by) (sym p.2) ∙ r.3));
     alone = added.alone;
     rise = rows-rise 0 x.rows.items (λ n row e. omega arith) rows.rise;
-    totals = subst (AreTotals kind tables run filters x.rows.items) (sym totals) (totals-told x.rows.items);
+    totals = subst (AreTotals kind tables run filters x.rows.items) (sym totals) (totals-told serial of x.rows.items);
   }

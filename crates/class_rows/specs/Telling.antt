@@ -1,5 +1,5 @@
 -- How classes come to be told. No public clause cites this module but for what is given.
-use Rattle.std.specs.Prelude.{◌≡◌, ◌≢◌, ◌↔◌, ℕ, ◌+◌, ◌<◌, ◌≤◌, ◌^◌, ◌⊎◌, Bool, true, ◌||◌, cond, List, [], ◌∷◌, ◌++◌, length, map, set, slice_get, Option, Some, None}
+use Rattle.std.specs.Prelude.{◌≡◌, ◌≢◌, ◌↔◌, ℕ, ◌+◌, ◌<◌, ◌≤◌, ◌^◌, ◌⊎◌, Bool, true, false, ◌||◌, cond, List, [], ◌∷◌, ◌++◌, length, map, set, slice_get, Option, Some, None, option_map}
 use Rattle.lock_queues.specs.Reasons.{Among}
 use Rattle.binding_model.specs.declared.tables.Table.{Table}
 use Rattle.bound_specs.specs.Spec.{Spec}
@@ -26,14 +26,15 @@ use Rattle.class_rows.specs.Pages.{told_by, AreLetters, has_r, rows_with}
 
 -- ---- what is given
 
--- of a spec without permutation lines these are the answers of its serial orders
-abbrev pub AreSerialOf : List Table → Spec → List Shows → Type 0
-AreSerialOf tables run answers = run.lines ≡ [] → AreSerialAnswers tables run answers
+-- of a spec without permutation lines these are the answers of its serial orders; of another one they are not told
+abbrev pub IsSerialOf : List Table → Spec → Option (List Shows) → Type 0
+IsSerialOf tables run None = run.lines ≢ []
+IsSerialOf tables run (Some answers) = (run.lines ≡ []) × AreSerialAnswers tables run answers
 
 -- the classes of the orders of a spec, and what its serial orders answer
-pub record AreFound (x : FoundOrders) : Type 0 where
-  pub classes : AreClassesOf x.kind x.tables.now x.spec.now.run x.classes.now
-  pub serial : AreSerialOf x.tables.now x.spec.now.run x.serial.now
+pub record AreFound (kind : Kind) (tables : List Table) (run : Spec) (x : FoundOrders) : Type 0 where
+  pub classes : AreClassesOf kind tables run x.classes.now
+  pub serial : IsSerialOf tables run (option_map (λ s. s.now) x.serial)
 
 -- ---- letters
 
@@ -149,18 +150,17 @@ orders_with has (p ∷ ps) = cond (has p.letters) p.class.now.count 0 + orders_w
 abbrev pub total_by : (Letters → Bool) → List Passing → List ClassRow → Total
 total_by has ps rows = record { orders = orders_with has ps; classes = rows_with has rows }
 
--- what is told of a spec without permutation lines alone
-abbrev pub unless_lines : {X : Type 0} → List (List ℕ) → X → Option X
-unless_lines [] x = Some x
-unless_lines (l ∷ ls) x = None
+abbrev pub where_told : {X : Type 0} → Bool → X → Option X
+where_told true x = Some x
+where_told false x = None
 
-abbrev pub totals_by : Spec → List Passing → List ClassRow → Totals
-totals_by run ps rows = record {
+abbrev pub totals_by : Bool → List Passing → List ClassRow → Totals
+totals_by is_told ps rows = record {
   all = total_by (has_letter letter.All) ps rows;
   waits = total_by (has_letter letter.Waits) ps rows;
   deadlock = total_by (has_letter letter.Deadlock) ps rows;
   error = total_by (has_letter letter.Error) ps rows;
   unsent = total_by (has_letter letter.Unsent) ps rows;
   stuck = total_by (has_letter letter.Stuck) ps rows;
-  not_serial = unless_lines run.lines (total_by (has_letter letter.NotSerial) ps rows);
+  not_serial = where_told is_told (total_by (has_letter letter.NotSerial) ps rows);
 }

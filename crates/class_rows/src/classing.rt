@@ -1,6 +1,9 @@
 //! How classes come to be told.
 
-ghost use Rattle.std.specs.Prelude.{IfOk};
+ghost use Rattle.std.specs.Prelude.{List, IfOk};
+ghost use Rattle.binding_model.specs.declared.tables.Table.{Table as Declared};
+ghost use Rattle.bound_specs.specs.Spec.{Spec as Run};
+ghost use Rattle.spec_schedules.specs.declared.kind.Kind.{Kind as Sort};
 ghost use Rattle.class_rows.specs.Pages.{IsClassed};
 ghost use Rattle.class_rows.specs.Telling.{AreFound};
 
@@ -18,13 +21,14 @@ pub fn classed(
     found: &FoundOrders<'_>,
     asked: Asked<'_>,
 ) -> Result<Classed, AllocError>
-    requires { AreFound found.now }
-    ensures { IfOk result (IsClassed found.now.kind found.now.tables.now found.now.spec.now.run asked.entry.filters.now asked.entry.by) }
+    requires { (kind : Sort) × (tables : List Declared) × (run : Run) × AreFound kind tables run found.now }
+    ensures { (kind : Sort) (tables : List Declared) (run : Run) → AreFound kind tables run found.now
+        → IfOk result (IsClassed kind tables run asked.entry.filters.now asked.entry.by) }
 {
     counts_add_up();
     let passing = passing_classes(alloc, found, asked.filters)?;
     let rows = rows_of(alloc, asked.by, passing.as_slice())?;
-    let totals = totals_of(found.spec, passing.as_slice(), rows.as_slice());
+    let totals = totals_of(found.serial.is_some(), passing.as_slice(), rows.as_slice());
     Ok(Classed {
         orders: orders_of(found.classes),
         totals,

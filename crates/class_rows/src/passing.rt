@@ -1,9 +1,11 @@
 //! The classes that are asked for.
 
-ghost use Rattle.std.specs.Prelude.{◌≡◌, ℕ, List, false, IfOk, unwrap_or};
+ghost use Rattle.std.specs.Prelude.{◌≡◌, List, false, IfOk, option_map, unwrap_or};
+ghost use Rattle.binding_model.specs.declared.tables.Table.{Table as Declared};
+ghost use Rattle.bound_specs.specs.Spec.{Spec as Run};
 ghost use Rattle.order_classes.specs.Asked.{pass_all};
 ghost use Rattle.class_rows.specs.Pages.{letters_of};
-ghost use Rattle.class_rows.specs.Telling.{AreFound, ArePassing};
+ghost use Rattle.class_rows.specs.Telling.{ArePassing, IsSerialOf};
 
 use crate::anomaly::anomaly_of;
 use crate::found::FoundOrders;
@@ -25,13 +27,13 @@ pub(crate) fn passing_classes<'a>(
     found: &FoundOrders<'a>,
     filters: &[Filter],
 ) -> Result<Vec<Passing<'a>>, AllocError>
-    requires { AreFound found.now }
-    ensures { IfOk result (λ passing. ArePassing found.now.tables.now found.now.spec.now.run filters.now found.now.classes.now passing.items) }
+    ensures { (tables : List Declared) (run : Run) → IsSerialOf tables run (option_map (λ s. s.now) found.now.serial)
+        → IfOk result (λ passing. ArePassing tables run filters.now found.now.classes.now passing.items) }
 {
     let mut passing = Vec::new(alloc);
     for place in 0..found.classes.len() {
         let class = &found.classes[place];
-        let not_serial = anomaly_of(alloc, found.spec, found.serial, &class.shows)?;
+        let not_serial = anomaly_of(alloc, found.serial, &class.shows)?;
         if passes(filters, &class.shows, not_serial) {
             passing.push(Passing {
                 class,

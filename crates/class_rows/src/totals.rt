@@ -4,11 +4,10 @@ ghost use Rattle.std.specs.Prelude.{◌≡◌, ◌<◌, ◌^◌, ◌∷◌, []};
 ghost use Rattle.spec_classes.specs.Classes.{total_count};
 ghost use Rattle.class_rows.specs.Pages.{rows_with};
 ghost use Rattle.class_rows.specs.declared.letters.Letter.{Letter as Counted};
-ghost use Rattle.class_rows.specs.Telling.{has_letter, orders_with, total_by, totals_by, unless_lines};
+ghost use Rattle.class_rows.specs.Telling.{has_letter, orders_with, total_by, totals_by, where_told};
 
 use crate::letters::Letter;
 use crate::passing::Passing;
-use bound_specs::Spec;
 use order_classes::{ClassRow, Total, Totals};
 use spec_classes::OrderClass;
 
@@ -24,10 +23,10 @@ pub(crate) fn orders_of(classes: &[OrderClass]) -> u64
     orders
 }
 
-/// The totals of all letters of these classes, which are told in these rows.
-pub(crate) fn totals_of(spec: &Spec, passing: &[Passing<'_>], rows: &[ClassRow]) -> Totals
+/// The totals of all letters of these classes, which are told in these rows; that of R, if it is told.
+pub(crate) fn totals_of(is_told: bool, passing: &[Passing<'_>], rows: &[ClassRow]) -> Totals
     requires { (letter : Counted) → orders_with (has_letter letter) passing.now < 2 ^ 64 }
-    ensures { result ≡ totals_by spec.now.run passing.now rows.now }
+    ensures { result ≡ totals_by is_told passing.now rows.now }
 {
     Totals {
         all: total(Letter::All, passing, rows),
@@ -36,15 +35,15 @@ pub(crate) fn totals_of(spec: &Spec, passing: &[Passing<'_>], rows: &[ClassRow])
         error: total(Letter::Error, passing, rows),
         unsent: total(Letter::Unsent, passing, rows),
         stuck: total(Letter::Stuck, passing, rows),
-        not_serial: unless_lines(spec, total(Letter::NotSerial, passing, rows)),
+        not_serial: where_told(is_told, total(Letter::NotSerial, passing, rows)),
     }
 }
 
-/// The total of R, which is not told of a spec with permutation lines.
-fn unless_lines(spec: &Spec, total: Total) -> Option<Total>
-    ensures { result ≡ unless_lines spec.now.run.lines total }
+/// The total, if it is told.
+fn where_told(is_told: bool, total: Total) -> Option<Total>
+    ensures { result ≡ where_told is_told total }
 {
-    if spec.has_lines() { None } else { Some(total) }
+    if is_told { Some(total) } else { None }
 }
 
 /// The orders of the classes that have the letter, and how many rows do.

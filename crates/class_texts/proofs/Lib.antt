@@ -4,4 +4,5 @@ mod MeetLemmas
 mod MissLemmas
 pub mod ShownLemmas
 mod Worked
+mod WilsonLemmas
 mod ZipLemmas

@@ -18,7 +18,7 @@ use Rattle.class_texts.specs.Beneath.{left_lines, margin, seen_text}
 use Rattle.class_texts.specs.Counted.{number_text}
 use Rattle.class_texts.specs.Expected.{expected_lines, meets}
 use Rattle.class_texts.specs.Orders.{step_word, step_words}
-use Rattle.class_texts.specs.Pages.{Page, missing_text, page_bytes, share_text}
+use Rattle.class_texts.specs.Pages.{Page, interval_text, missing_text, page_bytes, share_text}
 use Rattle.class_texts.specs.declared.kind.ClassKind.TheVariants.{Shows, Answers, Outcomes}
 
 -- ---- numbers
@@ -87,6 +87,7 @@ without_blocks = record {
   path = codes "lost_update_without_blocks.spec";
   orders = 6;
   all_orders = false;
+  sample = None;
   sessions = codes "a" ∷ codes "b" ∷ [];
   steps = codes "a1" ∷ codes "a2" ∷ codes "b1" ∷ codes "b2" ∷ [];
   tables = [];
@@ -419,7 +420,7 @@ met : map (meets (Int (pos 2) ∷ Text (codes "it's") ∷ [])) (
 met = refl
 
 -- an expectation that is met by all, whose texts are quoted
-met_by_all : expected_lines [] 1 (row 0 1 nothing [] [] ∷ []) (record {
+met_by_all : expected_lines [] false 1 (row 0 1 nothing [] [] ∷ []) (record {
   text = codes "SELECT name FROM t";
   values = Text (codes "it's") ∷ Int (negsuc 4) ∷ [];
   seen = (event.Row (Text (codes "it's") ∷ Int (negsuc 4) ∷ []) ∷ event.Rows 1 ∷ []) ∷ [];
@@ -429,7 +430,7 @@ unfolding chars digits
 met_by_all = refl
 
 -- and one by none: several rows are seen
-met_by_none : expected_lines (codes "a1" ∷ []) 1000 (row 0 1000 nothing (0 ∷ []) [] ∷ []) (record {
+met_by_none : expected_lines (codes "a1" ∷ []) false 1000 (row 0 1000 nothing (0 ∷ []) [] ∷ []) (record {
   text = codes "SELECT name FROM t";
   values = Int (negsuc 4) ∷ [];
   seen = (event.Row (Int (negsuc 4) ∷ []) ∷ event.Row (Int (negsuc 5) ∷ []) ∷ event.Rows 2 ∷ []) ∷ [];
@@ -437,3 +438,20 @@ met_by_none : expected_lines (codes "a1" ∷ []) 1000 (row 0 1000 nothing (0 ∷
     ≡ codes "expect SELECT name FROM t = -5" ∷ codes "  FAILED in 1,000 of 1,000 orders" ∷ codes "  first: a1    (rank 0)" ∷ codes "  found: 2 rows, first -5" ∷ []
 unfolding chars digits
 met_by_none = refl
+
+-- and one against which no order of a sample speaks
+not_countered : expected_lines [] true 1000 (row 0 1000 nothing [] [] ∷ []) (record {
+  text = codes "SELECT name FROM t";
+  values = Text (codes "it's") ∷ [];
+  seen = (event.Row (Text (codes "it's") ∷ []) ∷ event.Rows 1 ∷ []) ∷ [];
+})
+    ≡ codes "expect SELECT name FROM t = 'it''s': no counterexample in 1,000 orders" ∷ []
+unfolding chars digits
+not_countered = refl
+
+-- ---- Wilson's intervals
+
+-- of 4 orders 1 is seen: 0.0456 to 0.6994; of 10 none: 0 to 0.2775; of 2 both: 0.3424 to 1
+intervals : interval_text 4 1 ∷ interval_text 10 0 ∷ interval_text 2 2 ∷ [] ≡ codes "4.5-70.0%" ∷ codes "0.0-27.8%" ∷ codes "34.2-100.0%" ∷ []
+unfolding digits
+intervals = refl

@@ -117,8 +117,17 @@ found_line steps events = codes "  found: " ++ found_text steps events
 abbrev pub miss_lines : List (List ℕ) → ClassRow → List Event → List (List ℕ)
 miss_lines steps row events = first_line steps row ∷ found_line steps events ∷ []
 
-abbrev pub holds_line : ℕ → Expectation → List ℕ
-holds_line orders e = expected_text e ++ (codes ": holds in " ++ of_orders orders orders)
+-- none of a sample of so many orders speaks against it
+abbrev pub none_against : ℕ → List ℕ
+none_against orders = codes ": no counterexample in " ++ counted orders (codes "order") (codes "orders")
+
+-- it holds of all of so many orders; or none of so many that were drawn speaks against it
+abbrev pub holds_text : Bool → ℕ → List ℕ
+holds_text true orders = none_against orders
+holds_text false orders = codes ": holds in " ++ of_orders orders orders
+
+abbrev pub holds_line : Bool → ℕ → Expectation → List ℕ
+holds_line is_sample orders e = expected_text e ++ holds_text is_sample orders
 
 abbrev pub missed_lines : ℕ → List ClassRow → Expectation → List (List ℕ)
 missed_lines orders rows e = expected_text e ∷ failed_line (missed_from e 0 rows) orders ∷ []
@@ -127,9 +136,9 @@ abbrev pub failed_lines : List (List ℕ) → ℕ → List ClassRow → Expectat
 failed_lines steps orders rows e row events = missed_lines orders rows e ++ miss_lines steps row events
 
 -- it holds of all of so many orders; or it does not, of so many and of this class first
-abbrev pub expected_by : List (List ℕ) → ℕ → List ClassRow → Expectation → Option (ClassRow × List Event) → List (List ℕ)
-expected_by steps orders rows e None = holds_line orders e ∷ []
-expected_by steps orders rows e (Some miss) = failed_lines steps orders rows e miss.0 miss.1
+abbrev pub expected_by : List (List ℕ) → Bool → ℕ → List ClassRow → Expectation → Option (ClassRow × List Event) → List (List ℕ)
+expected_by steps is_sample orders rows e None = holds_line is_sample orders e ∷ []
+expected_by steps is_sample orders rows e (Some miss) = failed_lines steps orders rows e miss.0 miss.1
 
-abbrev pub expected_lines : List (List ℕ) → ℕ → List ClassRow → Expectation → List (List ℕ)
-expected_lines steps orders rows e = expected_by steps orders rows e (first_miss e 0 rows)
+abbrev pub expected_lines : List (List ℕ) → Bool → ℕ → List ClassRow → Expectation → List (List ℕ)
+expected_lines steps is_sample orders rows e = expected_by steps is_sample orders rows e (first_miss e 0 rows)

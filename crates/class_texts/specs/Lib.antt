@@ -5,6 +5,7 @@ pub mod Legend
 pub mod Letters
 pub mod Beneath
 pub mod Expected
+pub mod Intervals
 pub mod Pages
 pub mod Records
 pub mod Laws

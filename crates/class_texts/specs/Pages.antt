@@ -1,5 +1,5 @@
 -- The text of classes.
-use Rattle.std.specs.Prelude.{ℕ, ◌+◌, ◌-◌, ◌*◌, ◌/◌, ◌%◌, max, nat_lt, Bool, cond, ◌&&◌, ◌||◌, not, ◌==◌}
+use Rattle.std.specs.Prelude.{ℕ, ◌+◌, ◌-◌, ◌*◌, ◌/◌, ◌%◌, ◌^◌, max, min, nat_lt, Bool, cond, ◌&&◌, ◌||◌, not, ◌==◌}
 use Rattle.std.specs.Prelude.{List, [], ◌∷◌, ◌++◌, length, map, get_or, codes, decimal, flat_map, Option, Some, None, is_some}
 use Rattle.binding_model.specs.declared.tables.Table.{Table}
 use Rattle.events.specs.declared.event.Event.{Event}
@@ -18,13 +18,15 @@ use Rattle.class_texts.specs.Orders.{order_text}
 use Rattle.class_texts.specs.Legend.{legend_lines}
 use Rattle.class_texts.specs.Beneath.{Look, left_lines, look_line, margin, outcome_beneath, ranks_text}
 use Rattle.class_texts.specs.Expected.{Expectation, expected_lines}
+use Rattle.class_texts.specs.Intervals.{high_share, low_share, seen_share}
 use Rattle.class_texts.specs.declared.kind.ClassKind.{ClassKind}
 use Rattle.class_texts.specs.declared.kind.ClassKind.TheVariants.{Shows, Answers, Outcomes}
 use Rattle.class_texts.specs.declared.letters.Letter.{Letter}
 use Rattle.class_texts.specs.declared.widths.TableWidths.{TableWidths}
 use Rattle.class_texts.specs.declared.widths.TotalWidths.{TotalWidths}
 
--- what a page is made of: the path of the spec and how many orders it has, of all permutations or of those alone that clients can send; the names of
+-- what a page is made of: the path of the spec and how many orders it has, of all permutations or of those alone that clients can send, or how many were
+-- drawn, and by which seed; the names of
 -- sessions and of steps, and the declared tables; by what orders are grouped, whether these are not all orders, by which filters, and which are missing; the
 -- lines of the file with a level that has no effect; what is expected; the totals and the classes; and whether the totals are told alone. Of each class what
 -- else is told: its ranks, its outcome, its final rows, and what queries see of these
@@ -32,6 +34,7 @@ pub record Page : Type 0 where
   pub path : List ℕ
   pub orders : ℕ
   pub all_orders : Bool
+  pub sample : Option ℕ
   pub sessions : List (List ℕ)
   pub steps : List (List ℕ)
   pub tables : List Table
@@ -61,6 +64,49 @@ classes_word Shows = codes "classes"
 classes_word Answers = codes "results"
 classes_word Outcomes = codes "classes"
 
+-- ---- shares
+
+-- tenths of a per cent, of which a half is rounded up
+abbrev pub tenths : ℕ → ℕ → ℕ
+tenths whole part = (part * 2000 + whole) / max 1 (whole * 2)
+
+abbrev pub tenths_text : ℕ → List ℕ
+tenths_text n = decimal (n / 10) ++ (codes "." ++ (decimal (n % 10) ++ codes "%"))
+
+abbrev pub share_by : ℕ → ℕ → List ℕ
+share_by part n = cond ((n == 0) && not (part == 0)) (codes "<0.1%") (tenths_text n)
+
+-- a part of the orders that are told of
+abbrev pub share_text : ℕ → ℕ → List ℕ
+share_text whole part = share_by part (tenths whole part)
+
+-- a text behind two blanks, and behind more to a width
+abbrev pub right : ℕ → List ℕ → List ℕ
+right width text = codes "  " ++ (blanks (width - length text) ++ text)
+
+-- as wide as its head and as the widest interval
+abbrev pub interval_width : ℕ
+interval_width = 12
+
+-- tenths of a per cent without their sign
+abbrev pub points_text : ℕ → List ℕ
+points_text n = decimal (n / 10) ++ (codes "." ++ decimal (n % 10))
+
+-- the shares between which Wilson's interval lies; it is told of samples of fewer than 2^32 orders
+abbrev pub interval_of : ℕ → ℕ → List ℕ
+interval_of whole part =
+    points_text (low_share whole part (seen_share whole part)) ++ (codes "-" ++ tenths_text (high_share whole part (999 - seen_share whole part)))
+
+abbrev pub interval_text : ℕ → ℕ → List ℕ
+interval_text whole part = cond (nat_lt whole (2 ^ 32)) (interval_of whole (min part whole)) (codes "-")
+
+-- the column of intervals, which samples have
+abbrev pub interval_column : Bool → List ℕ → List ℕ
+interval_column is_sample text = cond is_sample (right interval_width text) []
+
+abbrev pub interval_part : Bool → ℕ → ℕ → List ℕ
+interval_part is_sample whole part = interval_column is_sample (interval_text whole part)
+
 -- ---- the head
 
 -- how many orders are told of, where these are not all
@@ -71,6 +117,14 @@ abbrev pub counts_text : Page → List ℕ
 counts_text p =
     asked_text p.is_filtered p.totals.all.orders
     ++ (counted p.orders (codes "order") (codes "orders") ++ (codes " in " ++ counted p.totals.all.classes (class_word p.by) (classes_word p.by)))
+
+-- that the orders are drawn
+abbrev pub seed_text : ℕ → List ℕ
+seed_text seed = codes "sample of all permutations, seed " ++ decimal seed
+
+abbrev pub sample_remark : Option ℕ → List (List ℕ)
+sample_remark None = []
+sample_remark (Some seed) = seed_text seed ∷ []
 
 -- that all permutations are counted, which is not said of permutation lines
 abbrev pub all_remark : Page → List (List ℕ)
@@ -88,7 +142,7 @@ filters_remark [] = []
 filters_remark (c ∷ cs) = shown_text (c ∷ cs) ∷ []
 
 abbrev pub remarks : Page → List (List ℕ)
-remarks p = all_remark p ++ (unsent_remark p ++ filters_remark p.filters)
+remarks p = sample_remark p.sample ++ (all_remark p ++ (unsent_remark p ++ filters_remark p.filters))
 
 abbrev pub behind_semicolon : List ℕ → List ℕ
 behind_semicolon remark = codes "; " ++ remark
@@ -111,33 +165,29 @@ books_line Shows = []
 books_line Answers = []
 books_line Outcomes = codes "Books have no final rows: S and R are not known." ∷ []
 
+-- how many classes have one order
+abbrev pub is_one : ClassRow → ℕ
+is_one row = cond (row.count == 1) 1 0
+
+abbrev pub seen_once : List ClassRow → ℕ
+seen_once [] = 0
+seen_once (row ∷ rows) = is_one row + seen_once rows
+
+-- what a sample says of shares, and of the orders whose classes it has not: they are about as many as have a class of their own in it
+abbrev pub unseen_line : ℕ → List ClassRow → List ℕ
+unseen_line orders rows =
+    codes "Shares have 95% intervals by Wilson. About " ++ (share_text orders (seen_once rows) ++ codes " of such orders are in classes not seen (Good and Turing).")
+
+abbrev pub sample_line : Page → List (List ℕ)
+sample_line p = cond (is_some p.sample && nat_lt 0 p.totals.all.orders) (unseen_line p.totals.all.orders p.rows ∷ []) []
+
 abbrev pub head_lines : Page → List (List ℕ)
-head_lines p = title p ∷ (level_text p.level_lines ++ books_line p.by)
+head_lines p = title p ∷ (level_text p.level_lines ++ (books_line p.by ++ sample_line p))
 
 abbrev pub expectations_lines : Page → List (List ℕ)
-expectations_lines p = flat_map (expected_lines p.steps p.totals.all.orders p.rows) p.expectations
-
--- ---- shares
-
--- tenths of a per cent, of which a half is rounded up
-abbrev pub tenths : ℕ → ℕ → ℕ
-tenths whole part = (part * 2000 + whole) / max 1 (whole * 2)
-
-abbrev pub tenths_text : ℕ → List ℕ
-tenths_text n = decimal (n / 10) ++ (codes "." ++ (decimal (n % 10) ++ codes "%"))
-
-abbrev pub share_by : ℕ → ℕ → List ℕ
-share_by part n = cond ((n == 0) && not (part == 0)) (codes "<0.1%") (tenths_text n)
-
--- a part of the orders that are told of
-abbrev pub share_text : ℕ → ℕ → List ℕ
-share_text whole part = share_by part (tenths whole part)
+expectations_lines p = flat_map (expected_lines p.steps (is_some p.sample) p.totals.all.orders p.rows) p.expectations
 
 -- ---- columns
-
--- a text behind two blanks, and behind more to a width
-abbrev pub right : ℕ → List ℕ → List ℕ
-right width text = codes "  " ++ (blanks (width - length text) ++ text)
 
 -- the number behind these
 abbrev pub largest : ℕ → List ℕ → ℕ
@@ -175,33 +225,39 @@ total_widths by totals letters = record {
 }
 
 -- a line of the totals
-abbrev pub total_cells : TotalWidths → List ℕ → List ℕ → List ℕ → List ℕ → List ℕ
-total_cells w letter orders share classes =
-    codes "  " ++ (letter ++ (codes " " ++ (right w.orders orders ++ (right w.share share ++ right w.classes classes))))
+abbrev pub total_cells : TotalWidths → List ℕ → List ℕ → List ℕ → List ℕ → List ℕ → List ℕ
+total_cells w letter orders share interval classes =
+    codes "  " ++ (letter ++ (codes " " ++ (right w.orders orders ++ (right w.share share ++ (interval ++ right w.classes classes)))))
 
-abbrev pub totals_head : TotalWidths → ClassKind → List ℕ
-totals_head w by = total_cells w (codes " ") (codes "orders") (codes "share") (classes_word by)
+abbrev pub totals_head : TotalWidths → Bool → ClassKind → List ℕ
+totals_head w is_sample by = total_cells w (codes " ") (codes "orders") (codes "share") (interval_column is_sample (codes "95% interval")) (classes_word by)
 
-abbrev pub some_total : TotalWidths → ℕ → Letter → Total → List ℕ
-some_total w whole letter t =
-    total_cells w (sign letter) (number_text t.orders) (share_text whole t.orders) (number_text t.classes) ++ (codes "  " ++ meaning letter)
+abbrev pub some_total : TotalWidths → Bool → ℕ → Letter → Total → List ℕ
+some_total w is_sample whole letter t =
+    total_cells w (sign letter) (number_text t.orders) (share_text whole t.orders) (interval_part is_sample whole t.orders) (number_text t.classes)
+    ++ (codes "  " ++ meaning letter)
+
+-- why R is not known
+abbrev pub unknown_text : Bool → List ℕ
+unknown_text is_sample = cond is_sample (codes "  anomaly: not known for samples") (codes "  anomaly: not known for permutation lines")
 
 -- no numbers where the letter is not known
-abbrev pub unknown_total : TotalWidths → Letter → List ℕ
-unknown_total w letter = total_cells w (sign letter) (codes "-") (codes "-") (codes "-") ++ codes "  anomaly: not known for permutation lines"
+abbrev pub unknown_total : TotalWidths → Bool → Letter → List ℕ
+unknown_total w is_sample letter = total_cells w (sign letter) (codes "-") (codes "-") (interval_column is_sample (codes "-")) (codes "-") ++ unknown_text is_sample
 
-abbrev pub total_by : TotalWidths → ℕ → Letter → Option Total → List ℕ
-total_by w whole letter None = unknown_total w letter
-total_by w whole letter (Some t) = some_total w whole letter t
+abbrev pub total_by : TotalWidths → Bool → ℕ → Letter → Option Total → List ℕ
+total_by w is_sample whole letter None = unknown_total w is_sample letter
+total_by w is_sample whole letter (Some t) = some_total w is_sample whole letter t
 
-abbrev pub total_line : TotalWidths → Totals → Letter → List ℕ
-total_line w totals letter = total_by w totals.all.orders letter (total_of totals letter)
+abbrev pub total_line : TotalWidths → Bool → Totals → Letter → List ℕ
+total_line w is_sample totals letter = total_by w is_sample totals.all.orders letter (total_of totals letter)
 
-abbrev pub totals_by : TotalWidths → ClassKind → Totals → List Letter → List (List ℕ)
-totals_by w by totals letters = totals_head w by ∷ map (total_line w totals) letters
+abbrev pub totals_by : TotalWidths → Bool → ClassKind → Totals → List Letter → List (List ℕ)
+totals_by w is_sample by totals letters = totals_head w is_sample by ∷ map (total_line w is_sample totals) letters
 
 abbrev pub totals_lines : Page → List (List ℕ)
-totals_lines p = totals_by (total_widths p.by p.totals (letters_of p.by p.all_orders)) p.by p.totals (letters_of p.by p.all_orders)
+totals_lines p =
+    totals_by (total_widths p.by p.totals (letters_of p.by p.all_orders)) (is_some p.sample) p.by p.totals (letters_of p.by p.all_orders)
 
 -- the head, what is expected, and the totals, with an empty line between
 abbrev pub top_lines : Page → List (List ℕ)
@@ -236,20 +292,25 @@ table_widths by whole rows = record {
 }
 
 -- what stands in front of an order
-abbrev pub cells : TableWidths → List ℕ → List ℕ → List ℕ → List ℕ → List ℕ → List ℕ
-cells w number orders share letters rank =
+abbrev pub share_cells : TableWidths → List ℕ → List ℕ → List ℕ → List ℕ
+share_cells w orders share interval = right w.orders orders ++ (right w.share share ++ interval)
+
+abbrev pub cells : TableWidths → List ℕ → List ℕ → List ℕ → List ℕ → List ℕ → List ℕ → List ℕ
+cells w number orders share interval letters rank =
     blanks (w.number - length number)
-    ++ (number ++ (right w.orders orders ++ (right w.share share ++ (codes "  " ++ (letters ++ (right w.rank rank ++ codes " "))))))
+    ++ (number ++ (share_cells w orders share interval ++ (codes "  " ++ (letters ++ (right w.rank rank ++ codes " ")))))
 
 abbrev pub letter_signs : ClassKind → Bool → List ℕ
 letter_signs by all = flat_map sign (letters_of by all)
 
-abbrev pub table_head : TableWidths → ClassKind → Bool → List ℕ
-table_head w by all = cells w (class_word by) (codes "orders") (codes "share") (letter_signs by all) (codes "rank") ++ codes " first order"
+abbrev pub table_head : TableWidths → Bool → ClassKind → Bool → List ℕ
+table_head w is_sample by all =
+    cells w (class_word by) (codes "orders") (codes "share") (interval_column is_sample (codes "95% interval")) (letter_signs by all) (codes "rank") ++ codes " first order"
 
 abbrev pub row_front : TableWidths → Page → ℕ → ClassRow → List ℕ
 row_front w p number row =
-    cells w (decimal number) (number_text row.count) (share_text p.totals.all.orders row.count) (letters_text p.by p.all_orders row.letters) (decimal row.least)
+    cells w (decimal number) (number_text row.count) (share_text p.totals.all.orders row.count) (interval_part (is_some p.sample) p.totals.all.orders row.count)
+    (letters_text p.by p.all_orders row.letters) (decimal row.least)
 
 abbrev pub row_line : TableWidths → Page → ℕ → ClassRow → List ℕ
 row_line w p number row = row_front w p number row ++ order_text p.steps row.shows.told row.line.items
@@ -284,7 +345,7 @@ rows_bytes w p k [] = []
 rows_bytes w p k (row ∷ rows) = row_bytes w p k row ++ rows_bytes w p (k + 1) rows
 
 abbrev pub head_bytes : TableWidths → Page → List ℕ
-head_bytes w p = codes "\n" ++ line_bytes (table_head w p.by p.all_orders)
+head_bytes w p = codes "\n" ++ line_bytes (table_head w (is_some p.sample) p.by p.all_orders)
 
 abbrev pub table_bytes : TableWidths → Page → List ℕ
 table_bytes w p = head_bytes w p ++ (rows_bytes w p 0 p.rows ++ lines_bytes (part (legend_lines p.steps p.rows)))

@@ -310,17 +310,36 @@ fn put_miss(
     lines.push(found_line(alloc, steps, events)?)
 }
 
+/// Puts that none of a sample of so many orders speaks against it.
+fn put_none_against(line: &mut Items<char>, orders: u64) -> Result<(), AllocError>
+    ensures { OnOk result (line.new ≡ line.old ++ spec.none_against orders) }
+{
+    put(line, ": no counterexample in ")?;
+    put_counted(line, orders, "order", "orders")
+}
+
+/// Puts that it holds of so many orders, or that none of a sample of so many speaks against it.
+fn put_holds(line: &mut Items<char>, is_sample: bool, orders: u64) -> Result<(), AllocError>
+    ensures { OnOk result (line.new ≡ line.old ++ spec.holds_text is_sample orders) }
+{
+    if is_sample {
+        return put_none_against(line, orders);
+    }
+    put(line, ": holds in ")?;
+    put_of_orders(line, u128::from(orders), orders)
+}
+
 /// Puts that it holds behind what is expected.
 fn holds_line(
     alloc: Global,
+    is_sample: bool,
     orders: u64,
     expected: &Expected<'_>,
 ) -> Result<Items<char>, AllocError>
-    ensures { IfOk result (λ line. line ≡ spec.holds_line orders expected.now) }
+    ensures { IfOk result (λ line. line ≡ spec.holds_line is_sample orders expected.now) }
 {
     let mut line = expected_text(alloc, expected)?;
-    put(&mut line, ": holds in ")?;
-    put_of_orders(&mut line, u128::from(orders), orders)?;
+    put_holds(&mut line, is_sample, orders)?;
     Ok(line)
 }
 
@@ -329,14 +348,15 @@ fn put_expected(
     alloc: Global,
     lines: &mut Items<Items<char>>,
     steps: &[Text],
+    is_sample: bool,
     orders: u64,
     rows: &[ClassRow],
     expected: &Expected<'_>,
 ) -> Result<(), AllocError>
-    ensures { OnOk result (lines.new ≡ lines.old ++ spec.expected_lines steps.now orders rows.now expected.now) }
+    ensures { OnOk result (lines.new ≡ lines.old ++ spec.expected_lines steps.now is_sample orders rows.now expected.now) }
 {
     match first_miss(expected, rows) {
-        None => lines.push(holds_line(alloc, orders, expected)?),
+        None => lines.push(holds_line(alloc, is_sample, orders, expected)?),
         Some((row, events)) => {
             put_failed(alloc, lines, steps, orders, rows, expected, row, events)
         }
@@ -377,15 +397,16 @@ fn put_missed(
 pub(crate) fn expectations_lines(
     alloc: Global,
     steps: &[Text],
+    is_sample: bool,
     orders: u64,
     rows: &[ClassRow],
     expectations: &[Expected<'_>],
 ) -> Result<Items<Items<char>>, AllocError>
-    ensures { IfOk result (λ lines. lines ≡ flat_map (spec.expected_lines steps.now orders rows.now) expectations.now) }
+    ensures { IfOk result (λ lines. lines ≡ flat_map (spec.expected_lines steps.now is_sample orders rows.now) expectations.now) }
 {
     let mut lines = Items::new(alloc);
     for expected in expectations {
-        put_expected(alloc, &mut lines, steps, orders, rows, expected)?;
+        put_expected(alloc, &mut lines, steps, is_sample, orders, rows, expected)?;
     }
     Ok(lines)
 }

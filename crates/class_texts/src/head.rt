@@ -1,13 +1,15 @@
 //! The head of a page: how many orders and classes there are, and what is said of all of them.
 
-ghost use Rattle.std.specs.Prelude.{◌≡◌, ◌++◌, ◌∷◌, [], IfOk, OnOk, Some, flat_map};
+ghost use Rattle.std.specs.Prelude.{◌≡◌, ◌≤◌, ◌++◌, ◌∷◌, [], IfOk, OnOk, Some, flat_map};
 ghost use Rattle.class_texts.specs.Pages as spec;
 
 use crate::counted::{put_counted, put_number_text};
 use crate::kind::ClassKind;
 use crate::page::Page;
+use crate::shares::share_text;
 use crate::widths::{class_word, classes_word};
 use class_stretches::Missing;
+use order_classes::ClassRow;
 use shown_texts::{level_text, put, put_line, put_number, put_shown};
 use sqlite_items::Items;
 use std::alloc::{AllocError, Global};
@@ -43,6 +45,29 @@ fn put_text(alloc: Global, lines: &mut Items<Items<char>>, text: &str) -> Result
     let mut line = Items::new(alloc);
     put(&mut line, text)?;
     lines.push(line)
+}
+
+/// Puts that the orders are drawn, if they are, behind other remarks.
+fn put_sample_remark(
+    alloc: Global,
+    remarks: &mut Items<Items<char>>,
+    sample: Option<u64>,
+) -> Result<(), AllocError>
+    ensures { OnOk result (remarks.new ≡ remarks.old ++ spec.sample_remark sample) }
+{
+    match sample {
+        None => Ok(()),
+        Some(seed) => remarks.push(seed_text(alloc, seed)?),
+    }
+}
+
+fn seed_text(alloc: Global, seed: u64) -> Result<Items<char>, AllocError>
+    ensures { IfOk result (λ line. line ≡ spec.seed_text seed) }
+{
+    let mut line = Items::new(alloc);
+    put(&mut line, "sample of all permutations, seed ")?;
+    put_number(&mut line, seed)?;
+    Ok(line)
 }
 
 /// Puts that all permutations are counted behind other remarks, but for permutation lines.
@@ -102,6 +127,7 @@ fn remarks(alloc: Global, page: &Page<'_>) -> Result<Items<Items<char>>, AllocEr
     ensures { IfOk result (λ remarks. remarks ≡ spec.remarks page.now) }
 {
     let mut remarks = Items::new(alloc);
+    put_sample_remark(alloc, &mut remarks, page.sample)?;
     put_all_remark(alloc, &mut remarks, page)?;
     put_unsent_remark(alloc, &mut remarks, page)?;
     put_filters_remark(alloc, &mut remarks, page.filters)?;
@@ -183,6 +209,65 @@ fn put_books(alloc: Global, lines: &mut Items<Items<char>>, by: ClassKind) -> Re
     }
 }
 
+fn is_one(row: &ClassRow) -> u64
+    ensures is { result ≡ spec.is_one row.now }
+    ensures few { result ≤ 1 }
+{
+    if row.count == 1 { 1 } else { 0 }
+}
+
+/// How many classes have one order.
+pub fn seen_once(rows: &[ClassRow]) -> u64
+    ensures { result ≡ spec.seen_once rows.now }
+{
+    let mut once = 0;
+    for row in rows {
+        once += is_one(row);
+    }
+    once
+}
+
+/// What a sample says of shares, and of the orders whose classes it has not.
+fn unseen_line(alloc: Global, orders: u64, rows: &[ClassRow]) -> Result<Items<char>, AllocError>
+    ensures { IfOk result (λ line. line ≡ spec.unseen_line orders rows.now) }
+{
+    let share = share_text(alloc, orders, seen_once(rows))?;
+    let mut line = Items::new(alloc);
+    put(&mut line, "Shares have 95% intervals by Wilson. About ")?;
+    put_line(&mut line, share.as_slice())?;
+    put(
+        &mut line,
+        " of such orders are in classes not seen (Good and Turing).",
+    )?;
+    Ok(line)
+}
+
+/// Puts what a sample of so many orders says behind other lines.
+fn put_unseen(
+    alloc: Global,
+    lines: &mut Items<Items<char>>,
+    orders: u64,
+    rows: &[ClassRow],
+) -> Result<(), AllocError>
+    ensures { OnOk result (lines.new ≡ lines.old ++ spec.unseen_line orders rows.now ∷ []) }
+{
+    lines.push(unseen_line(alloc, orders, rows)?)
+}
+
+/// Puts what a page of a sample says of it behind other lines.
+fn put_sample(
+    alloc: Global,
+    lines: &mut Items<Items<char>>,
+    page: &Page<'_>,
+) -> Result<(), AllocError>
+    ensures { OnOk result (lines.new ≡ lines.old ++ spec.sample_line page.now) }
+{
+    if page.sample.is_some() && 0 < page.totals.all.orders {
+        return put_unseen(alloc, lines, page.totals.all.orders, page.rows);
+    }
+    Ok(())
+}
+
 /// The head of a page.
 pub(crate) fn head_lines(alloc: Global, page: &Page<'_>) -> Result<Items<Items<char>>, AllocError>
     ensures { IfOk result (λ lines. lines ≡ spec.head_lines page.now) }
@@ -191,5 +276,6 @@ pub(crate) fn head_lines(alloc: Global, page: &Page<'_>) -> Result<Items<Items<c
     lines.push(title(alloc, page)?)?;
     lines.append(level_text(alloc, page.level_lines)?)?;
     put_books(alloc, &mut lines, page.by)?;
+    put_sample(alloc, &mut lines, page)?;
     Ok(lines)
 }

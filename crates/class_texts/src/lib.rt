@@ -6,6 +6,7 @@ mod columns;
 mod counted;
 mod expected;
 mod head;
+mod intervals;
 mod kind;
 mod laws;
 mod left;
@@ -26,6 +27,7 @@ mod totals;
 mod widths;
 
 pub use expected::{Expected, first_miss, met_of};
+pub use head::seen_once;
 pub use kind::ClassKind;
 pub use laws::{letters_are_told, misses_are_told, one_row_is_met, standings_are_shown};
 pub use left::rows_at;

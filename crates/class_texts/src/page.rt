@@ -19,6 +19,8 @@ pub struct Page<'a> {
     pub orders: u64,
     /// All permutations are counted, and not those orders alone that clients can send.
     pub all_orders: bool,
+    /// The seed by which the orders were drawn, where they are a sample.
+    pub sample: Option<u64>,
     /// The names of the sessions.
     pub sessions: &'a [Text],
     /// The names of the steps, over all sessions.
@@ -72,6 +74,7 @@ impl<'a> Model for Page<'a> {
       path = p.path.now;
       orders = p.orders;
       all_orders = p.all_orders;
+      sample = p.sample;
       sessions = p.sessions.now;
       steps = p.steps.now;
       tables = p.tables.now;

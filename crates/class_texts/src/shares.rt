@@ -16,7 +16,7 @@ fn tenths(whole: u64, part: u64) -> u128
     (u128::from(part) * 2000 + u128::from(whole)) / (u128::from(whole) * 2).max(1)
 }
 
-fn put_tenths(line: &mut Items<char>, tenths: u128) -> Result<(), AllocError>
+pub(crate) fn put_tenths(line: &mut Items<char>, tenths: u128) -> Result<(), AllocError>
     ensures { OnOk result (line.new ≡ line.old ++ spec.tenths_text tenths) }
 {
     put(line, Buffer::new().format(tenths / 10))?;

@@ -8,6 +8,7 @@ ghost use Rattle.class_texts.specs.Pages as spec;
 
 use crate::beneath::push_beneath;
 use crate::columns::put_right;
+use crate::intervals::{interval_part, interval_word};
 use crate::kind::ClassKind;
 use crate::legend::legend_lines;
 use crate::letters::{Letter, letters_of, letters_text};
@@ -18,9 +19,24 @@ use crate::totals::{line_of, number_line};
 use crate::widths::{TableWidths, class_word, table_widths};
 use itoa::Buffer;
 use order_classes::ClassRow;
-use shown_texts::{push_line, push_lines, put, put_blanks, put_part};
+use shown_texts::{push_line, push_lines, put, put_blanks, put_line, put_part};
 use sqlite_items::Items;
 use std::alloc::{AllocError, Global};
+
+/// Puts how many orders a class has, and their share of all, behind a line.
+fn put_shares(
+    line: &mut Items<char>,
+    widths: TableWidths,
+    orders: &[char],
+    share: &[char],
+    interval: &[char],
+) -> Result<(), AllocError>
+    ensures { OnOk result (line.new ≡ line.old ++ spec.share_cells widths orders.now share.now interval.now) }
+{
+    put_right(line, widths.orders, orders)?;
+    put_right(line, widths.share, share)?;
+    put_line(line, interval)
+}
 
 /// A line with what stands in front of an order.
 fn cells(
@@ -29,17 +45,17 @@ fn cells(
     number: &str,
     orders: &[char],
     share: &[char],
+    interval: &[char],
     letters: &str,
     rank: &str,
 ) -> Result<Items<char>, AllocError>
-    ensures { IfOk result (λ line. line ≡ spec.cells widths number.now orders.now share.now letters.now rank.now) }
+    ensures { IfOk result (λ line. line ≡ spec.cells widths number.now orders.now share.now interval.now letters.now rank.now) }
 {
     let rank = line_of(alloc, rank)?;
     let mut line = Items::new(alloc);
     put_blanks(&mut line, widths.number.saturating_sub(number.len()))?;
     put(&mut line, number)?;
-    put_right(&mut line, widths.orders, orders)?;
-    put_right(&mut line, widths.share, share)?;
+    put_shares(&mut line, widths, orders, share, interval)?;
     put(&mut line, "  ")?;
     put(&mut line, letters)?;
     put_right(&mut line, widths.rank, rank.as_slice())?;
@@ -61,13 +77,15 @@ fn letter_signs(alloc: Global, letters: &[Letter]) -> Result<String, AllocError>
 fn head(
     alloc: Global,
     widths: TableWidths,
+    is_sample: bool,
     by: ClassKind,
     all_orders: bool,
 ) -> Result<Items<char>, AllocError>
-    ensures { IfOk result (λ line. line ≡ spec.table_head widths by all_orders) }
+    ensures { IfOk result (λ line. line ≡ spec.table_head widths is_sample by all_orders) }
 {
     let orders = line_of(alloc, "orders")?;
     let share = line_of(alloc, "share")?;
+    let interval = interval_word(alloc, is_sample, "95% interval")?;
     let letters = letter_signs(alloc, letters_of(by, all_orders))?;
     let mut line = cells(
         alloc,
@@ -75,6 +93,7 @@ fn head(
         class_word(by),
         orders.as_slice(),
         share.as_slice(),
+        interval.as_slice(),
         letters.as_str(),
         "rank",
     )?;
@@ -94,6 +113,12 @@ fn row_front(
 {
     let orders = number_line(alloc, row.count)?;
     let share = share_text(alloc, page.totals.all.orders, row.count)?;
+    let interval = interval_part(
+        alloc,
+        page.sample.is_some(),
+        page.totals.all.orders,
+        row.count,
+    )?;
     let letters = letters_text(alloc, page.by, page.all_orders, row.letters)?;
     cells(
         alloc,
@@ -101,6 +126,7 @@ fn row_front(
         Buffer::new().format(number),
         orders.as_slice(),
         share.as_slice(),
+        interval.as_slice(),
         letters.as_str(),
         Buffer::new().format(row.least),
     )
@@ -167,7 +193,13 @@ fn push_head(
 ) -> Result<(), AllocError>
     ensures { OnOk result (string_bytes text.new ≡ string_bytes text.old ++ spec.head_bytes widths page.now) }
 {
-    let line = head(alloc, widths, page.by, page.all_orders)?;
+    let line = head(
+        alloc,
+        widths,
+        page.sample.is_some(),
+        page.by,
+        page.all_orders,
+    )?;
     text.push_str("\n")?;
     push_line(text, line.as_slice())
 }

@@ -9,13 +9,14 @@ use crate::columns::put_right;
 use crate::counted::put_number_text;
 use crate::expected::expectations_lines;
 use crate::head::head_lines;
+use crate::intervals::{interval_part, interval_word};
 use crate::kind::ClassKind;
 use crate::letters::{Letter, letters_of};
 use crate::page::Page;
 use crate::shares::share_text;
 use crate::widths::{TotalWidths, classes_word, total_widths};
 use order_classes::{Total, Totals};
-use shown_texts::{put, put_part};
+use shown_texts::{put, put_line, put_part};
 use sqlite_items::Items;
 use std::alloc::{AllocError, Global};
 
@@ -44,9 +45,10 @@ fn cells(
     letter: &str,
     orders: &[char],
     share: &[char],
+    interval: &[char],
     classes: &[char],
 ) -> Result<Items<char>, AllocError>
-    ensures { IfOk result (λ line. line ≡ spec.total_cells widths letter.now orders.now share.now classes.now) }
+    ensures { IfOk result (λ line. line ≡ spec.total_cells widths letter.now orders.now share.now interval.now classes.now) }
 {
     let mut line = Items::new(alloc);
     put(&mut line, "  ")?;
@@ -54,15 +56,22 @@ fn cells(
     put(&mut line, " ")?;
     put_right(&mut line, widths.orders, orders)?;
     put_right(&mut line, widths.share, share)?;
+    put_line(&mut line, interval)?;
     put_right(&mut line, widths.classes, classes)?;
     Ok(line)
 }
 
-fn totals_head(alloc: Global, widths: TotalWidths, by: ClassKind) -> Result<Items<char>, AllocError>
-    ensures { IfOk result (λ line. line ≡ spec.totals_head widths by) }
+fn totals_head(
+    alloc: Global,
+    widths: TotalWidths,
+    is_sample: bool,
+    by: ClassKind,
+) -> Result<Items<char>, AllocError>
+    ensures { IfOk result (λ line. line ≡ spec.totals_head widths is_sample by) }
 {
     let orders = line_of(alloc, "orders")?;
     let share = line_of(alloc, "share")?;
+    let interval = interval_word(alloc, is_sample, "95% interval")?;
     let classes = line_of(alloc, classes_word(by))?;
     cells(
         alloc,
@@ -70,6 +79,7 @@ fn totals_head(alloc: Global, widths: TotalWidths, by: ClassKind) -> Result<Item
         " ",
         orders.as_slice(),
         share.as_slice(),
+        interval.as_slice(),
         classes.as_slice(),
     )
 }
@@ -77,14 +87,16 @@ fn totals_head(alloc: Global, widths: TotalWidths, by: ClassKind) -> Result<Item
 fn some_total(
     alloc: Global,
     widths: TotalWidths,
+    is_sample: bool,
     whole: u64,
     letter: Letter,
     total: Total,
 ) -> Result<Items<char>, AllocError>
-    ensures { IfOk result (λ line. line ≡ spec.some_total widths whole letter total) }
+    ensures { IfOk result (λ line. line ≡ spec.some_total widths is_sample whole letter total) }
 {
     let orders = number_line(alloc, total.orders)?;
     let share = share_text(alloc, whole, total.orders)?;
+    let interval = interval_part(alloc, is_sample, whole, total.orders)?;
     let classes = number_line(alloc, total.classes)?;
     let mut line = cells(
         alloc,
@@ -92,6 +104,7 @@ fn some_total(
         letter.sign(),
         orders.as_slice(),
         share.as_slice(),
+        interval.as_slice(),
         classes.as_slice(),
     )?;
     put(&mut line, "  ")?;
@@ -103,28 +116,43 @@ fn some_total(
 fn unknown_total(
     alloc: Global,
     widths: TotalWidths,
+    is_sample: bool,
     letter: Letter,
 ) -> Result<Items<char>, AllocError>
-    ensures { IfOk result (λ line. line ≡ spec.unknown_total widths letter) }
+    ensures { IfOk result (λ line. line ≡ spec.unknown_total widths is_sample letter) }
 {
     let none = line_of(alloc, "-")?;
     let none = none.as_slice();
-    let mut line = cells(alloc, widths, letter.sign(), none, none, none)?;
-    put(&mut line, "  anomaly: not known for permutation lines")?;
+    let interval = interval_word(alloc, is_sample, "-")?;
+    let interval = interval.as_slice();
+    let mut line = cells(alloc, widths, letter.sign(), none, none, interval, none)?;
+    put(&mut line, unknown_text(is_sample))?;
     Ok(line)
+}
+
+/// Why R is not known.
+fn unknown_text(is_sample: bool) -> &'static str
+    ensures { result.now ≡ spec.unknown_text is_sample }
+{
+    if is_sample {
+        "  anomaly: not known for samples"
+    } else {
+        "  anomaly: not known for permutation lines"
+    }
 }
 
 fn total_line(
     alloc: Global,
     widths: TotalWidths,
+    is_sample: bool,
     totals: Totals,
     letter: Letter,
 ) -> Result<Items<char>, AllocError>
-    ensures { IfOk result (λ line. line ≡ spec.total_line widths totals letter) }
+    ensures { IfOk result (λ line. line ≡ spec.total_line widths is_sample totals letter) }
 {
     match letter.total(totals) {
-        None => unknown_total(alloc, widths, letter),
-        Some(total) => some_total(alloc, widths, totals.all.orders, letter, total),
+        None => unknown_total(alloc, widths, is_sample, letter),
+        Some(total) => some_total(alloc, widths, is_sample, totals.all.orders, letter, total),
     }
 }
 
@@ -133,13 +161,14 @@ fn put_totals(
     alloc: Global,
     lines: &mut Items<Items<char>>,
     widths: TotalWidths,
+    is_sample: bool,
     totals: Totals,
     letters: &[Letter],
 ) -> Result<(), AllocError>
-    ensures { OnOk result (lines.new ≡ lines.old ++ map (spec.total_line widths totals) letters.now) }
+    ensures { OnOk result (lines.new ≡ lines.old ++ map (spec.total_line widths is_sample totals) letters.now) }
 {
     for letter in letters {
-        lines.push(total_line(alloc, widths, totals, *letter)?)?;
+        lines.push(total_line(alloc, widths, is_sample, totals, *letter)?)?;
     }
     Ok(())
 }
@@ -149,9 +178,10 @@ fn totals_lines(alloc: Global, page: &Page<'_>) -> Result<Items<Items<char>>, Al
 {
     let letters = letters_of(page.by, page.all_orders);
     let widths = total_widths(alloc, page.by, page.totals, letters)?;
+    let is_sample = page.sample.is_some();
     let mut lines = Items::new(alloc);
-    lines.push(totals_head(alloc, widths, page.by)?)?;
-    put_totals(alloc, &mut lines, widths, page.totals, letters)?;
+    lines.push(totals_head(alloc, widths, is_sample, page.by)?)?;
+    put_totals(alloc, &mut lines, widths, is_sample, page.totals, letters)?;
     Ok(lines)
 }
 
@@ -161,6 +191,7 @@ fn expected_lines(alloc: Global, page: &Page<'_>) -> Result<Items<Items<char>>, 
     expectations_lines(
         alloc,
         page.steps,
+        page.sample.is_some(),
         page.totals.all.orders,
         page.rows,
         page.expectations,

@@ -25,7 +25,7 @@ use Rattle.class_texts.specs.declared.letters.Letter.TheVariants.{Waits, Deadloc
 use Rattle.class_texts.specs.Letters.{letters_of, letters_text}
 use Rattle.class_texts.specs.Beneath.{Look}
 use Rattle.class_texts.specs.Expected.{Expectation, first_miss, met_from}
-use Rattle.class_texts.specs.Pages.{Page}
+use Rattle.class_texts.specs.Pages.{Page, seen_once}
 use Rattle.class_values.specs.Labels.{label}
 use Rattle.class_values.specs.declared.label.Label.{Label}
 use Rattle.class_values.specs.declared.label.Label.TheVariants as the
@@ -33,7 +33,7 @@ use Rattle.class_values.specs.Totals.{letter_json, told_total, total_json, total
 use Rattle.class_values.specs.Expected.{expected_json, least_of, so_json, value_json, wanted_json}
 use Rattle.class_values.specs.Class.{class_at, class_json, classes_from, classes_part, head_json, left_part, lines_json, open_of, range_json}
 use Rattle.class_values.specs.Class.{ranks_part, rests_json, seen_json, shows_json, table_at, tables_from, tables_json}
-use Rattle.class_values.specs.Page.{asked_json, by_json, classes_json, counts_json, grouped_json, levels_json, look_json, missing_by, missing_json, numbers_json}
+use Rattle.class_values.specs.Page.{asked_json, by_json, classes_json, counts_json, grouped_json, levels_json, look_json, missing_by, missing_json, numbers_json, sample_json}
 
 -- one of two texts
 one-free : (b : Bool) (xs ys : List ℕ) → IsFree xs → IsFree ys → IsFree (cond b xs ys)
@@ -188,9 +188,20 @@ missing-by-free Shows m = refl
 missing-by-free Answers m = refl
 missing-by-free Outcomes m = missing-free m
 
+sample-free : (rows : List ClassRow) (sample : Option ℕ) → IsFree (sample_json rows sample)
+sample-free rows None = refl
+sample-free rows (Some seed) = simp (list_any-append, decimal-free seed, decimal-free (seen_once rows))
+
 counts-free : (p : Page) → IsFree (counts_json p)
 counts-free p =
-    simp (list_any-append, string-free p.path, decimal-free p.orders, decimal-free p.totals.all.orders, missing-by-free p.by p.missing)
+    simp (
+      list_any-append,
+      string-free p.path,
+      decimal-free p.orders,
+      decimal-free p.totals.all.orders,
+      sample-free p.rows p.sample,
+      missing-by-free p.by p.missing,
+    )
 
 numbers-free : (p : Page) (step_sessions : List ℕ) (statements : List (List ℕ)) → IsFree (numbers_json p step_sessions statements)
 numbers-free p step_sessions statements =

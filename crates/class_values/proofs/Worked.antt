@@ -16,7 +16,7 @@ use Rattle.class_values.specs.Totals.{totals_json}
 use Rattle.class_values.specs.Expected.{expected_json}
 use Rattle.class_values.specs.Labels.{label}
 use Rattle.class_values.specs.Class.{left_part}
-use Rattle.class_values.specs.Page.{classes_json, missing_by}
+use Rattle.class_values.specs.Page.{classes_json, counts_json, missing_by}
 
 abbrev total : ℕ → ℕ → Total
 total orders classes = record { orders = orders; classes = classes }
@@ -69,6 +69,7 @@ two_orders = record {
   path = codes "two.spec";
   orders = 2;
   all_orders = true;
+  sample = None;
   sessions = codes "a" ∷ codes "b" ∷ [];
   steps = codes "a1" ∷ codes "b1" ∷ [];
   tables = record { name = codes "t"; columns = []; key = None } ∷ [];
@@ -153,6 +154,12 @@ met_by_all : expected_json (first_class ∷ []) one_row ≡ codes "{\"select\":\
 unfolding digits escaped escape_byte label
 met_by_all = refl
 
+-- a sample by the seed 7, of which both classes were seen once
+counts_of_sample : counts_json (record two_orders { sample = Some 7 })
+    ≡ codes "{\"format\":2,\"name\":\"two.spec\",\"orders\":2,\"asked\":2,\"sample\":{\"seed\":7,\"seen_once\":2}"
+unfolding digits escaped escape_byte
+counts_of_sample = refl
+
 -- ---- the one order of a file with one step that has no statement
 
 abbrev one_step : Page
@@ -160,6 +167,7 @@ one_step = record {
   path = codes "one.spec";
   orders = 1;
   all_orders = false;
+  sample = None;
   sessions = codes "a" ∷ [];
   steps = codes "s" ∷ [];
   tables = [];

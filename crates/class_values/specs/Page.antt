@@ -3,10 +3,11 @@ use Rattle.std.specs.Prelude.{ℕ, List, [], ◌++◌, Option, Some, None, codes
 use Rattle.class_texts.specs.declared.kind.ClassKind.{ClassKind}
 use Rattle.class_texts.specs.declared.kind.ClassKind.TheVariants.{Shows, Answers, Outcomes}
 use Rattle.class_stretches.specs.declared.missing.Missing.{Missing}
+use Rattle.order_classes.specs.declared.rows.ClassRow.{ClassRow}
 use Rattle.shown_values.specs.Strings.{array_json, string_json}
 use Rattle.shown_values.specs.Page.{step_json}
 use Rattle.class_texts.specs.Beneath.{Look}
-use Rattle.class_texts.specs.Pages.{Page}
+use Rattle.class_texts.specs.Pages.{Page, seen_once}
 use Rattle.class_values.specs.Labels.{label}
 use Rattle.class_values.specs.declared.label.Label.TheVariants as the
 use Rattle.class_values.specs.Totals.{totals_json}
@@ -30,9 +31,14 @@ orders_json p =
     (codes "{\"format\":2,\"name\":" ++ string_json p.path) ++ (codes ",\"orders\":" ++ decimal p.orders)
     ++ (codes ",\"asked\":" ++ decimal p.totals.all.orders)
 
+-- by which seed they were drawn where they are a sample, and how many classes were seen once
+abbrev pub sample_json : List ClassRow → Option ℕ → List ℕ
+sample_json rows None = []
+sample_json rows (Some seed) = (codes ",\"sample\":{\"seed\":" ++ decimal seed) ++ (codes ",\"seen_once\":" ++ decimal (seen_once rows)) ++ codes "}"
+
 -- and which are missing
 abbrev pub counts_json : Page → List ℕ
-counts_json p = orders_json p ++ missing_by p.by p.missing
+counts_json p = orders_json p ++ sample_json p.rows p.sample ++ missing_by p.by p.missing
 
 -- what the numbers of sessions and steps stand for, by the session and the statements of each step
 abbrev pub numbers_json : Page → List ℕ → List (List ℕ) → List ℕ

@@ -10,9 +10,10 @@ use crate::rows::push_classes;
 use crate::sheet::Sheet;
 use crate::totals::push_totals;
 use class_stretches::Missing;
-use class_texts::{ClassKind, Looked, Page};
+use class_texts::{ClassKind, Looked, Page, seen_once};
 use itoa::Buffer;
 use lock_modes::Text;
+use order_classes::ClassRow;
 use shown_values::{push, push_before, push_count, push_names, push_steps, push_string, push_word};
 use std::alloc::{AllocError, Global};
 
@@ -35,7 +36,26 @@ fn push_counts(page: &Page<'_>, out: &mut Vec<u8>) -> Result<(), AllocError>
     ensures { OnOk result (out.new.items ≡ out.old.items ++ spec.counts_json page.now) }
 {
     push_orders(page, out)?;
+    push_sample(page.rows, page.sample, out)?;
     push_missing_by(page.by, page.missing, out)
+}
+
+/// Pushes by which seed the orders were drawn, where they are a sample, and how many classes were seen once.
+fn push_sample(rows: &[ClassRow], sample: Option<u64>, out: &mut Vec<u8>) -> Result<(), AllocError>
+    ensures { OnOk result (out.new.items ≡ out.old.items ++ spec.sample_json rows.now sample) }
+{
+    match sample {
+        None => Ok(()),
+        Some(seed) => push_seed(rows, seed, out),
+    }
+}
+
+fn push_seed(rows: &[ClassRow], seed: u64, out: &mut Vec<u8>) -> Result<(), AllocError>
+    ensures { OnOk result (out.new.items ≡ out.old.items ++ spec.sample_json rows.now (Some seed)) }
+{
+    push_count(",\"sample\":{\"seed\":", seed, out)?;
+    push_count(",\"seen_once\":", seen_once(rows), out)?;
+    push("}", out)
 }
 
 /// Pushes of which spec the classes are, and of how many orders.

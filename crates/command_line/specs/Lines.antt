@@ -146,6 +146,7 @@ IsWanted words (wanted.Names names) = (map (λ n. n.now) names.items ≡ words) 
 -- the classes of all orders that clients can send by what they show, each told with its least order alone
 pub record AsksForNoMore (wanted : WantedClasses) : Type 0 where
   pub sendable : wanted.all_orders ≡ false
+  pub undrawn : wanted.sample ≡ None
   pub shows : wanted.by_result ≡ false
   pub all : wanted.filters.items ≡ []
   pub no_queries : wanted.queries.items ≡ []

@@ -1,6 +1,8 @@
 //! The words of commands, as `clap` takes them.
 
-use crate::words::{DEFAULT_MEMORY_WORD, DEFAULT_WORKERS_WORD, MAX_BOOKS, MAX_NAMES};
+use crate::words::{
+    DEFAULT_MEMORY_WORD, DEFAULT_SEED_WORD, DEFAULT_WORKERS_WORD, MAX_BOOKS, MAX_NAMES,
+};
 use clap::{Arg, ArgAction, value_parser};
 use shard_board::MAX_SEATS;
 use std::alloc::{AllocError, Global};
@@ -10,6 +12,9 @@ const MAX_EXPECTED: usize = 1_000;
 
 /// The megabytes that states may take, at most.
 const MAX_MEMORY: i64 = 1_000_000;
+
+/// The orders of a sample, at most.
+const MAX_SAMPLE: i64 = 1_000_000;
 
 /// A word that a command takes: what it is called, what is told of it, and its form.
 #[derive(Clone, Copy, Drop)]
@@ -54,6 +59,10 @@ enum Form {
     Workers,
     /// `--name MB`
     Memory,
+    /// `--name N`, of which some flags are refused.
+    Sample,
+    /// `--name S`
+    Seed,
     /// `--name FILE`
     File,
     /// `--name BOOK`, as often as wanted, in place of a spec.
@@ -228,6 +237,18 @@ pub const BRIEF: Word = Word {
     form: Form::Flag,
 };
 
+pub const SAMPLE: Word = Word {
+    name: "sample",
+    help: "Run N random orders instead of all, 1 to 1000000",
+    form: Form::Sample,
+};
+
+pub const SEED: Word = Word {
+    name: "seed",
+    help: "Seed for --sample",
+    form: Form::Seed,
+};
+
 pub const MEMORY: Word = Word {
     name: "memory",
     help: "Megabytes that states may take, 1 to 1000000",
@@ -347,6 +368,8 @@ static NOT_OF_BOOKS: &[&str] = &[
     "html",
     "progress",
     "memory",
+    "sample",
+    "seed",
 ];
 
 /// What stands for a spec.
@@ -354,6 +377,9 @@ static OF_SPEC: &[&str] = &["SPEC"];
 
 /// What does not go with a page.
 static NOT_OF_PAGES: &[&str] = &["json", "brief"];
+
+/// What does not go with a sample: R compares with all serial orders, a page shows no intervals, and few states are noted.
+static NOT_OF_SAMPLES: &[&str] = &["anomaly", "no-anomaly", "html", "progress", "memory"];
 
 /// The word as `clap` takes it.
 pub fn arg_of<'a>(alloc: Global, word: &Word) -> Result<Arg<'a>, AllocError> {
@@ -372,6 +398,8 @@ fn formed<'a>(alloc: Global, word: &Word) -> Arg<'a> {
         Form::Expectation => expectation(alloc, word),
         Form::Workers => workers(alloc, word),
         Form::Memory => memory(alloc, word),
+        Form::Sample => sample(alloc, word),
+        Form::Seed => seed(alloc, word),
         Form::File => file(alloc, word),
         Form::InPlaceOfSpec => books(alloc, word),
     }
@@ -386,6 +414,8 @@ fn ruled<'a>(form: Form, arg: Arg<'a>) -> Result<Arg<'a>, AllocError> {
         Form::FlagOfBooks => arg.conflicts_with_all(OF_SPEC),
         Form::FlagOfAllOrders => arg.requires_arg("all-orders"),
         Form::Page => arg.conflicts_with_all(NOT_OF_PAGES),
+        Form::Sample => arg.conflicts_with_all(NOT_OF_SAMPLES),
+        Form::Seed => arg.requires_arg("sample"),
         Form::InPlaceOfSpec => arg.conflicts_with_all(NOT_OF_BOOKS),
         _ => Ok(arg),
     }
@@ -456,6 +486,21 @@ fn memory<'a>(alloc: Global, word: &Word) -> Arg<'a> {
         .action(ArgAction::Set)
         .value_parser(value_parser!(u64).range(1..=MAX_MEMORY))
         .default_value(DEFAULT_MEMORY_WORD)
+}
+
+fn sample<'a>(alloc: Global, word: &Word) -> Arg<'a> {
+    named(alloc, word)
+        .value_name("N")
+        .action(ArgAction::Set)
+        .value_parser(value_parser!(u32).range(1..=MAX_SAMPLE))
+}
+
+fn seed<'a>(alloc: Global, word: &Word) -> Arg<'a> {
+    named(alloc, word)
+        .value_name("S")
+        .action(ArgAction::Set)
+        .value_parser(value_parser!(u64))
+        .default_value(DEFAULT_SEED_WORD)
 }
 
 fn file<'a>(alloc: Global, word: &Word) -> Arg<'a> {

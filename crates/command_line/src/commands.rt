@@ -4,8 +4,8 @@ use crate::arguments::{
     ACCEPTED, ALL_ORDERS, ANOMALY, BOOK, BOOKS, BRIEF, BY_RESULT, DEADLOCK, END, END_OF_ALL, ERROR,
     EVERY, EXPECT, FINAL_ROWS, FIRST, FIRST_OF_ALL, HTML, JSON, JUNIT, LINES, MEMORY, NAMES,
     NO_ANOMALY, NO_DEADLOCK, NO_ERROR, NO_NOT_SENT, NO_STUCK, NO_WAITS, NOT_SENT, OF_BOOKS, ORDER,
-    OUTCOMES, PROGRESS, QUERY, RANK, RANKS, SHOW, SPEC, SPEC_OR_BOOKS, SPECS, STUCK, UPDATE, WAITS,
-    WORKERS, Word, arg_of,
+    OUTCOMES, PROGRESS, QUERY, RANK, RANKS, SAMPLE, SEED, SHOW, SPEC, SPEC_OR_BOOKS, SPECS, STUCK,
+    UPDATE, WAITS, WORKERS, Word, arg_of,
 };
 use clap::Command;
 use std::alloc::{AllocError, Global};
@@ -85,6 +85,8 @@ static COMMANDS: [Row; 15] = [
             HTML,
             PROGRESS,
             MEMORY,
+            SAMPLE,
+            SEED,
         ],
     },
     Row {

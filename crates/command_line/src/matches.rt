@@ -9,7 +9,8 @@ use clap::ArgMatches;
 use shard_board::Workers;
 use std::alloc::{AllocError, Global};
 use wanted_classes::{
-    WantedClasses, WantedExpectation, WantedFilter, WantedForm, WantedOutcomes, WantedTest,
+    WantedClasses, WantedExpectation, WantedFilter, WantedForm, WantedOutcomes, WantedSample,
+    WantedTest,
 };
 
 /// What the words ask for, nothing where they name no command.
@@ -134,6 +135,7 @@ fn classes_with<'a>(
         path,
         wanted: WantedClasses {
             all_orders: words.get_flag("all-orders"),
+            sample: sample_of_words(words),
             by_result: words.get_flag("by-result"),
             filters,
             queries,
@@ -145,6 +147,13 @@ fn classes_with<'a>(
             memory: words.get_one::<u64>("memory")?,
         },
         progress: words.get_flag("progress"),
+    })
+}
+
+fn sample_of_words(words: &ArgMatches<'_>) -> Option<WantedSample> {
+    Some(WantedSample {
+        orders: words.get_one::<u32>("sample")?,
+        seed: words.get_one::<u64>("seed")?,
     })
 }
 
@@ -209,7 +218,22 @@ fn filters_of_words<'a>(
     for flags in &FLAGS {
         push_flags(words, flags, &mut filters)?;
     }
+    push_sendable(words, &mut filters)?;
     Ok(filters)
+}
+
+/// Of a sample those orders alone are asked for that clients can send, unless all are.
+fn push_sendable<'a>(
+    words: &ArgMatches<'a>,
+    filters: &mut Vec<WantedFilter<'a>>,
+) -> Result<(), AllocError> {
+    if sample_of_words(words).is_some() && !words.get_flag("all-orders") {
+        filters.push(WantedFilter {
+            test: WantedTest::NotSent,
+            wanted: false,
+        })?;
+    }
+    Ok(())
 }
 
 fn push_flags<'a>(

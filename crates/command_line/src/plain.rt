@@ -195,6 +195,7 @@ fn classes_line<'a>(alloc: Global, rest: &'a [String]) -> Option<Asked<'a>>
             path,
             wanted: WantedClasses {
                 all_orders: false,
+                sample: None,
                 by_result: false,
                 filters: Vec::new(alloc),
                 queries: Vec::new(alloc),

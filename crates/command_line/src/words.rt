@@ -35,6 +35,9 @@ pub const DEFAULT_WORKERS_WORD: &str = "4";
 /// How many megabytes the states of a spec may take where the words name no number, as `clap` takes it.
 pub const DEFAULT_MEMORY_WORD: &str = "2000";
 
+/// The seed of a sample where the words name no other, as `clap` takes it.
+pub const DEFAULT_SEED_WORD: &str = "1";
+
 /// What the words ask for.
 #[derive(Drop)]
 pub enum Asked<'a> {

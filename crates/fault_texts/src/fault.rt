@@ -83,7 +83,7 @@ pub enum ProgramFault<'a> {
         path: &'a str,
     },
     /// The orders of the spec lead to more different states than there is room for: so many were noted.
-    #[error("isofarm: {path}: too many different states: more than {noted}")]
+    #[error("isofarm: {path}: too many different states: more than {noted}; classes --sample N looks at random orders")]
     TooManyStates {
         path: &'a str,
         noted: u64,

@@ -8,7 +8,7 @@ use program_commands::{Entry, FileReader, Folder, Opener, run, tell_words_fault}
 use std::alloc::{AllocError, Global};
 use std::env;
 use std::fs::File;
-use std::io::{self, BufWriter, Read, Stdin, Write};
+use std::io::{self, BufWriter, IsTerminal, Read, Stdin, Write};
 use std::process::ExitCode;
 use std::sync::Wait;
 use std::thread::Threads;
@@ -101,10 +101,13 @@ impl FileReader for OpenFile {
 }
 
 fn main(rt: HostRuntime) -> ExitCode {
-    let mut err = Counted::new(rt.stderr());
+    let err = rt.stderr();
+    let is_terminal = err.is_terminal();
+    let mut err = Counted::new(err);
     let out = BufWriter::new(rt.alloc(), rt.stdout());
+    let disk = Disk { rt: &rt };
     let status = match words_of(&rt) {
-        Ok(words) => status_of(&rt, rt.alloc(), &words, &Disk { rt: &rt }, out, &mut err),
+        Ok(words) => status_of(&rt, rt.alloc(), &words, &disk, is_terminal, out, &mut err),
         Err(error) => tell_words_fault(&error, &mut err),
     };
     ExitCode::from(status)
@@ -119,11 +122,12 @@ fn status_of<R: Threads + Wait + Clock + Sync, W: Write + Drop, E: Write + Send>
     alloc: Global,
     words: &[String],
     disk: &Disk<'_>,
+    is_terminal: bool,
     out: io::Result<BufWriter<W>>,
     err: &mut Counted<E>,
 ) -> u8 {
     match out {
-        Ok(out) => done(rt, alloc, words, disk, out, err),
+        Ok(out) => done(rt, alloc, words, disk, is_terminal, out, err),
         Err(error) => tell_words_fault(&error, err),
     }
 }
@@ -133,8 +137,17 @@ fn done<R: Threads + Wait + Clock + Sync, W: Write + Drop, E: Write + Send>(
     alloc: Global,
     words: &[String],
     disk: &Disk<'_>,
+    is_terminal: bool,
     out: BufWriter<W>,
     err: &mut Counted<E>,
 ) -> u8 {
-    run(rt, alloc, words, disk, &mut Counted::new(out), err)
+    run(
+        rt,
+        alloc,
+        words,
+        disk,
+        is_terminal,
+        &mut Counted::new(out),
+        err,
+    )
 }

@@ -1,5 +1,5 @@
 -- What each call answers, in the caller's buffer, and how it ends.
-use Rattle.std.specs.Prelude.{◌≡◌, ◌≢◌, ℕ, ◌<◌, ◌≤◌, ◌⊎◌, Bool, false, List, [], length, take, IsUtf8}
+use Rattle.std.specs.Prelude.{◌≡◌, ◌≢◌, ℕ, ◌<◌, ◌≤◌, ◌⊎◌, Bool, false, None, List, [], length, take, IsUtf8}
 use Rattle.bound_specs.specs.Binding.{IsFileOf}
 use Rattle.bound_specs.specs.Spec.{SpecFile, ranks}
 use Rattle.machine_model.specs.Start.{start}
@@ -72,6 +72,7 @@ IsShowCall bytes name rank old new end answered =
 -- all orders as JSON, by all that they show or by what they answer
 pub record IsWanted (answers : Bool) (wanted : WantedClasses) : Type 0 where
   pub sent : wanted.all_orders ≡ false
+  pub undrawn : wanted.sample ≡ None
   pub answers_are : wanted.by_result ≡ answers
   pub all : wanted.filters.items ≡ []
   pub no_looks : wanted.queries.items ≡ []

@@ -42,6 +42,7 @@ fn wanted(alloc: Global, answers: bool) -> WantedClasses<'static>
 {
     WantedClasses {
         all_orders: false,
+        sample: None,
         memory: DEFAULT_MEMORY,
         by_result: answers,
         filters: Vec::new(alloc),

@@ -39,7 +39,7 @@ use book_commands::{
 };
 use clap::Error;
 use clap::error::ErrorKind;
-use class_commands::{book_classes, classes_told};
+use class_commands::{Telling, book_classes, classes_told};
 use command_line::{Asked, Wanted, WantedRanks, parse_words};
 use fault_texts::ProgramFault;
 use range_commands::{run_all, run_told};
@@ -56,13 +56,14 @@ use transcripts::{Counted, say};
 use wanted_classes::{WantedClasses, WantedOutcomes};
 
 /// Does what the words ask, the first of which is the program's name. What is asked for goes to `out`; faults go to `err`, and so does how far a
-/// run is, where that is asked for. The answer is the exit status: 0 good, 1 where a rank has not exactly one value, ranks are missing,
+/// run is, where that is asked for: of classes on one line that is written over, where `err` is a terminal. The answer is the exit status: 0 good, 1 where a rank has not exactly one value, ranks are missing,
 /// a fact is false or no accepted report is equal, 2 for a fault of the command line, 3 for what is refused, 4 for want of memory, 5 for a read or write fault.
 pub fn run<R: Threads + Wait + Clock + Sync, O: Folder + Sync, W: Write, E: Write + Send>(
     rt: &R,
     alloc: Global,
     words: &[String],
     opener: &O,
+    is_terminal: bool,
     out: &mut Counted<W>,
     err: &mut Counted<E>,
 ) -> u8
@@ -75,7 +76,7 @@ where
         Ok(asked) => asked,
         Err(error) => return tell_usage(alloc, &error, out, err),
     };
-    match answer(rt, alloc, &asked, opener, out, err) {
+    match answer(rt, alloc, &asked, opener, is_terminal, out, err) {
         Ok(finding) => finding.status(),
         Err(fault) => tell_fault(alloc, &fault, err),
     }
@@ -87,6 +88,7 @@ pub fn answer<'a, R: Threads + Wait + Clock + Sync, O: Folder + Sync, W: Write, 
     alloc: Global,
     asked: &Asked<'a>,
     opener: &O,
+    is_terminal: bool,
     out: &mut Counted<W>,
     err: &mut Counted<E>,
 ) -> Result<Finding, ProgramFault<'a>>
@@ -96,7 +98,7 @@ where
     ensures answer { IsAnswered (O.bytes opener.now) W.contents out.old out.new asked.now result }
     ensures quiet { tells_progress asked.now ≡ false → err.new ≡ err.old }
 {
-    match work(rt, alloc, asked, opener, out, err) {
+    match work(rt, alloc, asked, opener, is_terminal, out, err) {
         Ok(finding) => flushed(finding, out),
         Err(fault) => Err(fault),
     }
@@ -108,6 +110,7 @@ fn work<'a, R: Threads + Wait + Clock + Sync, O: Folder + Sync, W: Write, E: Wri
     alloc: Global,
     asked: &Asked<'a>,
     opener: &O,
+    is_terminal: bool,
     out: &mut Counted<W>,
     err: &mut Counted<E>,
 ) -> Result<Finding, ProgramFault<'a>>
@@ -131,7 +134,10 @@ where
             path,
             wanted,
             progress,
-        } => classes_of_file(rt, alloc, path, wanted, *progress, opener, out, err),
+        } => {
+            let telling = telling_of(*progress, is_terminal);
+            classes_of_file(rt, alloc, path, wanted, telling, opener, out, err)
+        }
         Asked::Outcomes { paths, wanted } => {
             outcomes_of_files(alloc, paths.as_slice(), wanted, opener, out)
         }
@@ -330,12 +336,23 @@ fn form_of(json: bool) -> ShowForm
     if json { ShowForm::Json } else { ShowForm::Text }
 }
 
+/// How it is told how far the exploring of states is, if that is wanted.
+fn telling_of(is_wanted: bool, is_terminal: bool) -> Telling
+    ensures { is_wanted ≡ false → result ≡ Telling.Silent }
+{
+    match (is_wanted, is_terminal) {
+        (false, _) => Telling::Silent,
+        (true, false) => Telling::Lines,
+        (true, true) => Telling::OneLine,
+    }
+}
+
 fn classes_of_file<'a, C: Clock, O: Opener, W: Write, E: Write>(
     clock: &C,
     alloc: Global,
     path: &'a str,
     wanted: &WantedClasses<'a>,
-    is_told: bool,
+    telling: Telling,
     opener: &O,
     out: &mut Counted<W>,
     err: &mut Counted<E>,
@@ -343,7 +360,7 @@ fn classes_of_file<'a, C: Clock, O: Opener, W: Write, E: Write>(
     requires { failures_of out.old ≡ 0 }
     ensures done { IsUnread (O.bytes opener.now path.now) path.now out.old out.new result ⊎ IsFoundBy (O.bytes opener.now path.now) (λ bytes. IsClassesRun W.contents out.old out.new bytes path.now wanted.now) (λ error told. told ≡ classing_told path.entry error) result }
     ensures failures { OnOk result (failures_of out.new ≡ 0) }
-    ensures quiet { is_told ≡ false → err.new ≡ err.old }
+    ensures quiet { telling ≡ Telling.Silent → err.new ≡ err.old }
 {
     let bytes = match read_spec_file(alloc, opener, path) {
         Ok(bytes) => bytes,
@@ -355,7 +372,7 @@ fn classes_of_file<'a, C: Clock, O: Opener, W: Write, E: Write>(
         bytes.as_slice(),
         path,
         wanted,
-        is_told,
+        telling,
         out,
         err,
     ) {

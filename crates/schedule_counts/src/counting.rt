@@ -112,7 +112,9 @@ pub fn final_states<'a, W: Watch>(
     orders_are_few();
     orders_are_words();
     sums_are_exact();
-    match finals(alloc, &mut watched, MOST_WORLDS) {
+    let counted = finals(alloc, &mut watched, MOST_WORLDS);
+    watch.ended();
+    match counted {
         Ok(finals) => Ok(found(alloc, watched.search, finals.as_slice())?),
         Err(error) => {
             let search = &watched.search;

@@ -9,6 +9,9 @@ use world_graph::{Explored, Refused};
 pub trait Watch {
     /// A world was numbered: so many states were noted by now, and so many steps sent.
     fn noted(&self, states: u64, steps: u64);
+
+    /// No further one will be.
+    fn ended(&self);
 }
 
 /// Nobody looks on.
@@ -17,6 +20,8 @@ pub struct Unwatched;
 
 impl Watch for Unwatched {
     fn noted(&self, _states: u64, _steps: u64) {}
+
+    fn ended(&self) {}
 }
 
 /// A search on which someone looks.

@@ -1,6 +1,7 @@
 -- What the lines of a spec show tells of all its orders.
-use Rattle.std.proofs.Common.{◌≡◌, ◌≢◌, ◌↔◌, refl, sym, ap, ◌∙◌, subst, ℕ, zero, suc, ◌+◌, ◌<◌, ◌≤◌, ◌==◌, ◌⊎◌, inl, inr, ⊎_elim, Bool, true, false, cond, Some, List, [], ◌∷◌, ◌++◌, length, get_or, slice_get, length-append, ◌^◌, arith, eqb-true, eq-eqb}
-use Rattle.std.proofs.lemmas.List.{append-nil}
+use Rattle.std.proofs.Common.{◌≡◌, ◌≢◌, ◌↔◌, refl, sym, ap, ◌∙◌, subst, ℕ, zero, suc, ◌+◌, ◌<◌, ◌≤◌, ◌==◌, ◌⊎◌, inl, inr, ⊎_elim, Bool, true, false, cond, Some, List, [], ◌∷◌, ◌++◌, length, get_or, slice_get, length-append, map, take, add-one, ◌^◌, arith, eqb-true, eq-eqb}
+use Rattle.std.proofs.Math.Seq.{take-suc}
+use Rattle.std.proofs.lemmas.List.{append-nil, length-map, map-append}
 use mathlib.Core.List.{IsPrefix}
 use Rattle.lock_queues.specs.Reasons.{Among}
 use Rattle.path_counts.specs.Paths.{Has}
@@ -14,7 +15,7 @@ use Rattle.order_classes.specs.Numbers.{RiseFrom}
 use Rattle.different_shows.specs.Different.{AreDifferent, HasNumber}
 use Rattle.schedule_counts.specs.declared.counting.FinalState.{FinalState}
 use Rattle.schedule_counts.specs.Classes.{count_of, total_count}
-use Rattle.spec_classes.specs.Classes.{ShowsAt}
+use Rattle.spec_classes.specs.Classes.{ShowsAt, drawn}
 use Rattle.spec_classes.specs.Told.{AreTold, IsOfLine, AreOfLines}
 use Rattle.spec_classes.proofs.Classing.{get-inside, get-there, same-some, one-shown}
 
@@ -176,6 +177,36 @@ number-front old new s n h = ⊎_elim (λ e. ([], append-nil old ∙ sym e)) (λ
 pub no-lines : (tables : List Table) (run : Spec) (kind : Kind) → AreOfLines tables run kind [] 0 []
 no-lines tables run kind = record { long = refl; each = λ rank f e. absurd (cc) }
 
+-- ---- the lines of ranks
+
+line-at : (run : Spec) (rs : List ℕ) (place : ℕ) → place < length rs → slice_get (map (line_of run) rs) place ≡ Some (line_of run (get_or rs place 0))
+line-at run [] place lt = absurd (omega arith)
+line-at run (r ∷ rs) zero lt = refl
+line-at run (r ∷ rs) (suc place) lt = line-at run rs place (omega arith)
+
+-- the order at a place is that of the rank there
+pub drawn-order-at : (kind : Kind) (run : Spec) (rs : List ℕ) (place : ℕ) (ks : List ℕ) → place < length rs → ks ≡ line_of run (get_or rs place 0) → IsOrderAt kind (drawn run rs) place ks
+drawn-order-at kind run [] place ks lt is = absurd (omega arith)
+drawn-order-at kind run (r ∷ rs) place ks lt is = line-at run (r ∷ rs) place lt ∙ ap Some (sym is)
+
+pub drawn-inside : (kind : Kind) (run : Spec) (rs : List ℕ) (place : ℕ) (ks : List ℕ) → rs ≢ [] → IsOrderAt kind (drawn run rs) place ks → place < length rs
+drawn-inside kind run [] place ks some h = absurd (some refl)
+drawn-inside kind run (r ∷ rs) place ks some h = subst (λ n. place < n) (length-map (r ∷ rs) (line_of run)) (get-inside (map (line_of run) (r ∷ rs)) place ks h)
+
+pub drawn-some : (run : Spec) (rs : List ℕ) → rs ≢ [] → (drawn run rs).lines ≢ []
+drawn-some run [] some e = some refl
+drawn-some run (r ∷ rs) some e = absurd (cc)
+
+pub ranks-some : (run : Spec) (rs : List ℕ) → run.lines ≢ [] → drawn run rs ≡ run → rs ≢ []
+ranks-some run rs some same none = some (sym (ap (λ (r : Spec). r.lines) same) ∙ ap (map (line_of run)) none)
+
+pub drawn-length : (run : Spec) (rs : List ℕ) → drawn run rs ≡ run → length rs ≡ length run.lines
+drawn-length run rs same = sym (length-map rs (line_of run)) ∙ ap (λ (r : Spec). length r.lines) same
+
+-- the ranks of all lines are drawn where none is left out
+pub drawn-all : (run : Spec) (rs : List ℕ) → map (line_of run) rs ≡ run.lines → drawn run rs ≡ run
+drawn-all run rs e = ap (λ ls. record { sessions = run.sessions; steps = run.steps; setups = run.setups; session_setups = run.session_setups; lines = ls }) e
+
 pub ranks-lines : (run : Spec) → run.lines ≢ [] → ranks run ≡ length run.lines
 ranks-lines run some = at run.lines some
   where
@@ -183,17 +214,18 @@ ranks-lines run some = at run.lines some
     at [] some = absurd (some refl)
     at (l ∷ ls) some = refl
 
-line-at : (ls : List (List ℕ)) (rank : ℕ) → rank < length ls → slice_get ls rank ≡ Some (get_or ls rank [])
-line-at [] rank lt = absurd (omega arith)
-line-at (l ∷ ls) zero lt = refl
-line-at (l ∷ ls) (suc rank) lt = line-at ls rank (omega arith)
-
-pub line-order-at : (kind : Kind) (run : Spec) (rank : ℕ) (ks : List ℕ) → run.lines ≢ [] → rank < length run.lines → ks ≡ line_of run rank → IsOrderAt kind run rank ks
-line-order-at kind run rank ks some lt is = subst (λ l. IsOrderAt kind run rank l) (sym is) (at run.lines some lt)
+line-is : (run : Spec) (rank : ℕ) → run.lines ≢ [] → line_of run rank ≡ get_or run.lines rank []
+line-is run rank some = at run.lines some
   where
-    at : (ls : List (List ℕ)) → ls ≢ [] → rank < length ls → IsOrderBy kind run ls rank (line_by ls (queues_of run) rank)
-    at [] some lt = absurd (some refl)
-    at (l ∷ ls) some lt = line-at (l ∷ ls) rank lt
+    at : (ls : List (List ℕ)) → ls ≢ [] → line_by ls (queues_of run) rank ≡ get_or ls rank []
+    at [] some = absurd (some refl)
+    at (l ∷ ls) some = refl
+
+-- one more of the ranks of all lines
+pub drawn-next : (run : Spec) (rs : List ℕ) (n : ℕ) → run.lines ≢ [] → n < length run.lines → map (line_of run) rs ≡ take n run.lines → map (line_of run) (rs ++ n ∷ []) ≡ take (n + 1) run.lines
+drawn-next run rs n some lt e =
+    map-append (line_of run) rs (n ∷ []) ∙ ap (λ ls. ls ++ line_of run n ∷ []) e ∙ ap (λ l. take n run.lines ++ l ∷ []) (line-is run n some)
+    ∙ sym (take-suc run.lines n [] lt) ∙ ap (λ k. take k run.lines) (sym (add-one n))
 
 -- where it is told that there are no lines, there are none
 pub no-lines-left : (ls : List (List ℕ)) (b : Bool) → b ≡ false → (b ≡ true) ↔ (ls ≢ []) → ls ≡ []

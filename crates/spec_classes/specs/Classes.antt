@@ -2,7 +2,7 @@
 use Rattle.std.specs.Prelude.{◌≡◌, ℕ, ◌+◌, ◌<◌, ◌^◌, List, [], ◌∷◌, map, Some, option_map}
 use Rattle.lock_queues.specs.Reasons.{Among}
 use Rattle.binding_model.specs.declared.tables.Table.{Table}
-use Rattle.bound_specs.specs.Spec.{Spec}
+use Rattle.bound_specs.specs.Spec.{Spec, line_of}
 use Rattle.spec_schedules.specs.declared.kind.Kind.{Kind}
 use Rattle.spec_schedules.specs.Ranked.{IsOrderAt}
 use Rattle.order_classes.specs.declared.shows.Shows.{Shows}
@@ -10,6 +10,16 @@ use Rattle.order_classes.specs.Shows.{shows_of_line}
 use Rattle.order_classes.specs.Letters.{Answers, answers_of, session_orders, serial_line}
 use Rattle.order_classes.specs.Numbers.{IsNumberOf, IsLeastOf, RiseFrom}
 use Rattle.spec_classes.specs.declared.classes.OrderClass.{OrderClass}
+
+-- the orders of these ranks of a spec, each by itself: those of a spec that has their lines
+abbrev pub drawn : Spec → List ℕ → Spec
+drawn run ranks = record {
+  sessions = run.sessions;
+  steps = run.steps;
+  setups = run.setups;
+  session_setups = run.session_setups;
+  lines = map (line_of run) ranks;
+}
 
 -- the order of a rank shows this
 abbrev pub ShowsAt : Kind → List Table → Spec → ℕ → Shows → Type 0

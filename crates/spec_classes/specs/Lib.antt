@@ -1,4 +1,6 @@
 pub mod Classes
+pub mod Drawing
+pub mod Meant
 pub mod Showing
 pub mod Told
 pub mod Tallies

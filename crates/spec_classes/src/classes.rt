@@ -1,6 +1,7 @@
 //! Orders in classes.
 
-ghost use Rattle.std.specs.Prelude.{◌≡◌, ◌≢◌, ℕ, [], IfOk, IsErrOf};
+ghost use Rattle.std.specs.Prelude.{◌≡◌, ◌≢◌, ◌<◌, ◌^◌, ℕ, [], All, IfOk, IsErrOf, length};
+ghost use Rattle.bound_specs.specs.Spec.{ranks as count_of};
 ghost use Rattle.machine_model.specs.World.{World};
 ghost use Rattle.machine_model.specs.Start.{Started, start};
 ghost use Rattle.session_steps.specs.Refused.{IsRefusedBy};
@@ -8,10 +9,11 @@ ghost use Rattle.session_steps.specs.declared.error.StartError.{StartError};
 ghost use Rattle.schedule_counts.specs.declared.counting.StatesError.TheVariants.{Start, TooMany};
 ghost use Rattle.schedule_counts.specs.Classes.{AreClasses};
 ghost use Rattle.schedule_counts.specs.States.{AreFinalStates};
-ghost use Rattle.spec_classes.specs.Classes.{AreClassesOf};
+ghost use Rattle.spec_classes.specs.Classes.{AreClassesOf, drawn};
 ghost use Rattle.spec_classes.specs.Showing.{IsAtStart};
 
 use crate::lines::line_states;
+use crate::orders::Orders;
 use crate::start::started;
 use crate::telling::told_classes;
 use binding_model::Table;
@@ -21,7 +23,7 @@ use order_classes::Shows;
 use schedule_counts::{FinalStates, StatesError, Watch, final_states};
 use session_steps::SendError;
 use spec_schedules::{Kind, each_order_has_a_rank, ranks_are_unique};
-use std::alloc::Global;
+use std::alloc::{AllocError, Global};
 
 /// A class of orders: all those that show the same.
 pub struct OrderClass {
@@ -81,6 +83,32 @@ pub fn classes_of<W: Watch>(
     }
 }
 
+/// The orders of these ranks of a spec in classes, each run by itself: the rank of an order is its place among them. A rank that stands there twice counts twice.
+pub fn drawn_classes(
+    alloc: Global,
+    spec: &Spec,
+    tables: &[Table],
+    kind: Kind,
+    ranks: &[u64],
+) -> Result<Vec<OrderClass>, StatesError>
+    requires inside { All (λ r. r < count_of spec.now.run) ranks.now }
+    requires some { ranks.now ≢ [] }
+    requires few { length ranks.now < 2 ^ 63 }
+    ensures classes { IfOk result (λ classes. AreClassesOf kind tables.now (drawn spec.now.run ranks.now) classes.items) }
+    ensures starts { IfOk result (λ _. (w : World) × (start spec.now.run ≡ Started w)) }
+    ensures few { (noted : ℕ) → IsErrOf result (TooMany noted) → ⊥ }
+    ensures refused { (error : StartError) → IsErrOf result (StatesError.Start error) → IsRefusedBy error (start spec.now.run) }
+{
+    let mut world = match started(alloc, spec) {
+        Ok(world) => world,
+        Err(error) => return Err(error),
+    };
+    match rank_classes(alloc, &mut world, spec, tables, kind, ranks) {
+        Ok(classes) => Ok(classes),
+        Err(_) => Err(StatesError::Memory),
+    }
+}
+
 /// The classes of the lines of a spec.
 fn line_classes(
     alloc: Global,
@@ -93,11 +121,47 @@ fn line_classes(
     requires lines { spec.now.run.lines ≢ [] }
     ensures { IfOk result (λ classes. AreClassesOf kind tables.now spec.now.run classes.items) }
 {
-    let found = line_states(alloc, world, spec, tables)?;
     spec.ready();
+    let ranks = line_ranks(alloc, spec)?;
+    rank_classes(alloc, world, spec, tables, kind, &ranks)
+}
+
+/// The ranks of the permutation lines of a spec.
+fn line_ranks(alloc: Global, spec: &Spec) -> Result<Vec<u64>, AllocError>
+    requires { spec.now.run.lines ≢ [] }
+    ensures inside { IfOk result (λ ranks. All (λ r. r < count_of spec.now.run) ranks.items) }
+    ensures all { IfOk result (λ ranks. drawn spec.now.run ranks.items ≡ spec.now.run) }
+{
+    let mut ranks = Vec::new(alloc);
+    for rank in 0..spec.ranks() {
+        ranks.push(rank)?;
+    }
+    Ok(ranks)
+}
+
+/// The classes of the orders of ranks.
+fn rank_classes(
+    alloc: Global,
+    world: &mut MarkedWorld<'_>,
+    spec: &Spec,
+    tables: &[Table],
+    kind: Kind,
+    ranks: &[u64],
+) -> Result<Vec<OrderClass>, SendError>
+    requires at { IsAtStart spec.now world.old }
+    requires inside { All (λ r. r < count_of spec.now.run) ranks.now }
+    requires some { ranks.now ≢ [] }
+    requires few { length ranks.now < 2 ^ 63 }
+    ensures { IfOk result (λ classes. AreClassesOf kind tables.now (drawn spec.now.run ranks.now) classes.items) }
+{
+    let found = line_states(alloc, world, spec, tables, ranks)?;
     found.shows.known();
     ranks_are_unique();
-    told_classes(alloc, world, spec, kind, &found.shows, &found.states)
+    let orders = Orders {
+        kind,
+        ranks: Some(ranks),
+    };
+    told_classes(alloc, world, spec, orders, &found.shows, &found.states)
 }
 
 /// The classes of orders by the states in which they end.
@@ -118,5 +182,6 @@ fn word_classes(
     found.shows.known();
     each_order_has_a_rank();
     ranks_are_unique();
-    told_classes(alloc, world, spec, kind, &found.shows, &found.states)
+    let orders = Orders { kind, ranks: None };
+    told_classes(alloc, world, spec, orders, &found.shows, &found.states)
 }

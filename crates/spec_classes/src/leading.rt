@@ -1,47 +1,76 @@
 //! The steps of the order of a rank.
 
-ghost use Rattle.std.specs.Prelude.{◌≡◌, ◌≢◌, ◌<◌, ◌++◌, ℕ, false, [], ◌∷◌, List, length, IfOk, OnOk};
+ghost use Rattle.std.specs.Prelude.{◌≡◌, ◌≢◌, ◌<◌, ◌++◌, ℕ, false, [], ◌∷◌, All, List, get_or, length, IfOk, OnOk};
+ghost use Rattle.bound_specs.specs.Spec.{ranks as count_of};
 ghost use Rattle.spec_schedules.specs.declared.kind.Kind.TheVariants.{Permutations, Schedules};
 ghost use Rattle.spec_schedules.specs.Ranked.{IsOrderAt};
+ghost use Rattle.spec_classes.specs.Classes.{drawn};
 ghost use Rattle.spec_classes.specs.Leading.{led};
+ghost use Rattle.spec_classes.specs.Meant.{AreMeant, run_by};
 ghost use Rattle.spec_classes.specs.Showing.{AreSteps, IsAtStart};
 
+use crate::orders::Orders;
 use bound_specs::{Line, Spec};
 use marked_worlds::MarkedWorld;
 use session_steps::SendError;
 use spec_schedules::{Kind, permutations_are_ranked};
 
-/// The order of a rank.
+/// The order of a rank: among drawn ranks, that of the rank at this place.
 pub(crate) fn order_at(
+    world: &mut MarkedWorld<'_>,
+    spec: &Spec,
+    orders: Orders<'_>,
+    rank: u64,
+) -> Result<Line, SendError>
+    requires at { IsAtStart spec.now world.old }
+    requires meant { AreMeant spec.now.run orders }
+    requires some { (ks : List ℕ) × IsOrderAt orders.kind (run_by spec.now.run orders) rank ks }
+    ensures order { IfOk result (λ line. IsOrderAt orders.entry.kind (run_by spec.now.run orders.entry) rank line.items) }
+    ensures back { OnOk result (IsAtStart spec.now world.new) }
+{
+    match orders.ranks {
+        Some(ranks) => Ok(drawn_line(spec, orders.kind, ranks, rank)),
+        None => word_order(world, spec, orders.kind, rank),
+    }
+}
+
+/// The order of the rank at a place.
+fn drawn_line(spec: &Spec, kind: Kind, ranks: &[u64], place: u64) -> Line
+    requires ranks { ranks.now ≢ [] }
+    requires inside { All (λ r. r < count_of spec.now.run) ranks.now }
+    requires some { (ks : List ℕ) × IsOrderAt kind (drawn spec.now.run ranks.now) place ks }
+    ensures { IsOrderAt kind (drawn spec.now.run ranks.now) place result.items }
+{
+    let Some(line) = spec.line(rank_at(ranks, place)) else {
+        unreachable!()
+    };
+    line
+}
+
+fn rank_at(ranks: &[u64], place: u64) -> u64
+    requires { place < length ranks.now }
+    ensures { result ≡ get_or ranks.now place 0 }
+{
+    ranks[place as usize]
+}
+
+/// The order of a rank of a spec without permutation lines.
+fn word_order(
     world: &mut MarkedWorld<'_>,
     spec: &Spec,
     kind: Kind,
     rank: u64,
 ) -> Result<Line, SendError>
     requires at { IsAtStart spec.now world.old }
+    requires words { spec.now.run.lines ≡ [] }
     requires some { (ks : List ℕ) × IsOrderAt kind spec.now.run rank ks }
     ensures order { IfOk result (λ line. IsOrderAt kind spec.now.run rank line.items) }
     ensures back { OnOk result (IsAtStart spec.now world.new) }
 {
-    if spec.has_lines() {
-        return Ok(told_line(spec, kind, rank));
-    }
     match kind {
         Kind::Permutations => Ok(permutation(spec, rank)),
         Kind::Schedules => schedule(world, spec, rank),
     }
-}
-
-/// The line of a rank, of a spec with permutation lines.
-fn told_line(spec: &Spec, kind: Kind, rank: u64) -> Line
-    requires lines { spec.now.run.lines ≢ [] }
-    requires some { (ks : List ℕ) × IsOrderAt kind spec.now.run rank ks }
-    ensures { IsOrderAt kind spec.now.run rank result.items }
-{
-    let Some(line) = spec.line(rank) else {
-        unreachable!()
-    };
-    line
 }
 
 /// The permutation of a rank.

@@ -3,15 +3,18 @@
 
 mod answered;
 mod classes;
+mod drawing;
 mod laws;
 mod leading;
 mod lines;
+mod orders;
 mod serial;
 mod showing;
 mod start;
 mod tallies;
 mod telling;
 
-pub use classes::{OrderClass, classes_of};
-pub use laws::counts_add_up;
+pub use classes::{OrderClass, classes_of, drawn_classes};
+pub use drawing::drawn_ranks;
+pub use laws::{counts_add_up, draws_are_even};
 pub use serial::serial_answers;

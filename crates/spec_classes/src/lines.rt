@@ -1,8 +1,10 @@
-//! What the lines of a spec show.
+//! What the orders of ranks show, each run by itself.
 
 ghost use mathlib.Core.List.{IsPrefix};
-ghost use Rattle.std.specs.Prelude.{◌≡◌, ◌≢◌, ◌<◌, [], length, IfOk, OnOk};
+ghost use Rattle.std.specs.Prelude.{◌≡◌, ◌<◌, All, length, IfOk, OnOk, Some, slice_get};
+ghost use Rattle.bound_specs.specs.Spec.{ranks as count_of};
 ghost use Rattle.spec_schedules.specs.declared.kind.Kind.{Kind};
+ghost use Rattle.spec_classes.specs.Classes.{drawn};
 ghost use Rattle.spec_classes.specs.Showing.{IsAtStart};
 ghost use Rattle.spec_classes.specs.Told.{AreOfLines, IsOfLine};
 
@@ -15,7 +17,7 @@ use schedule_counts::FinalState;
 use session_steps::SendError;
 use std::alloc::Global;
 
-/// What the lines of a spec show, each in a state of its own, with the numbers that the shown have.
+/// What the orders of ranks show, each in a state of its own, with the numbers that the shown have.
 pub(crate) struct LineStates {
     pub shows: Different,
     pub states: Vec<FinalState>,
@@ -31,53 +33,55 @@ impl Drop for LineStates {
     }
 }
 
-/// Runs each line of a spec.
+/// Runs the orders of these ranks.
 pub(crate) fn line_states(
     alloc: Global,
     world: &mut MarkedWorld<'_>,
     spec: &Spec,
     tables: &[Table],
+    ranks: &[u64],
 ) -> Result<LineStates, SendError>
     requires at { IsAtStart spec.now world.old }
-    requires lines { spec.now.run.lines ≢ [] }
-    ensures states { (kind : Kind) → IfOk result (λ found. AreOfLines tables.now spec.now.run kind found.shows (length spec.now.run.lines) found.states.items) }
+    requires inside { All (λ r. r < count_of spec.now.run) ranks.now }
+    ensures states { (kind : Kind) → IfOk result (λ found. AreOfLines tables.now (drawn spec.now.run ranks.now) kind found.shows (length ranks.now) found.states.items) }
     ensures back { OnOk result (IsAtStart spec.now world.new) }
 {
     let mut shows = Different::new(alloc);
     let mut states = Vec::new(alloc);
-    for rank in 0..spec.ranks() {
+    for place in 0..ranks.len() {
         states.reserve(1)?;
-        let state = line_state(alloc, world, spec, tables, rank, &mut shows)?;
+        let state = line_state(alloc, world, spec, tables, ranks, place, &mut shows)?;
         states.push_reserved(state);
     }
     Ok(LineStates { shows, states })
 }
 
-/// Runs the line of this rank.
+/// Runs the order of the rank at a place.
 fn line_state(
     alloc: Global,
     world: &mut MarkedWorld<'_>,
     spec: &Spec,
     tables: &[Table],
-    rank: u64,
+    ranks: &[u64],
+    place: usize,
     shows: &mut Different,
 ) -> Result<FinalState, SendError>
     requires at { IsAtStart spec.now world.old }
-    requires lines { spec.now.run.lines ≢ [] }
-    requires rank { rank < length spec.now.run.lines }
-    ensures state { (kind : Kind) → IfOk result (IsOfLine tables.now spec.now.run kind shows.new rank) }
+    requires inside { All (λ r. r < count_of spec.now.run) ranks.now }
+    requires place { place < length ranks.now }
+    ensures state { (kind : Kind) → IfOk result (IsOfLine tables.now (drawn spec.now.run ranks.now) kind shows.new place) }
     ensures more { IsPrefix shows.old shows.new }
     ensures back { OnOk result (IsAtStart spec.now world.new) }
 {
-    let Some(line) = spec.line(rank) else {
+    let Some(line) = spec.line(ranks[place]) else {
         unreachable!()
     };
     let shown = shown_by(alloc, world, spec, tables, line.as_slice())?;
     let number = shows.number(&shown)?;
     Ok(FinalState {
-        state: rank as usize,
+        state: place,
         shows: number,
         count: 1,
-        first: rank,
+        first: place as u64,
     })
 }

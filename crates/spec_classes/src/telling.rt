@@ -1,11 +1,13 @@
 //! The classes of the orders that states tell of.
 
 ghost use Rattle.std.specs.Prelude.{◌≡◌, length, All, IfOk, OnOk};
+ghost use Rattle.spec_classes.specs.Meant.{AreMeant, run_by};
 ghost use Rattle.spec_classes.specs.Showing.{IsAtStart};
 ghost use Rattle.spec_classes.specs.Tallies.{AreClassesBy, AreTellable, AreToldBy, IsFound, IsToldBy};
 
 use crate::classes::OrderClass;
 use crate::leading::order_at;
+use crate::orders::Orders;
 use crate::tallies::{Tally, in_turn, tallies_of};
 use bound_specs::Spec;
 use different_shows::Different;
@@ -13,7 +15,6 @@ use marked_worlds::MarkedWorld;
 use order_classes::Shows;
 use schedule_counts::FinalState;
 use session_steps::SendError;
-use spec_schedules::Kind;
 use std::alloc::Global;
 
 /// A class of each number that a state shows, in the order of their first ranks.
@@ -21,13 +22,14 @@ pub(crate) fn told_classes(
     alloc: Global,
     world: &mut MarkedWorld<'_>,
     spec: &Spec,
-    kind: Kind,
+    orders: Orders<'_>,
     shows: &Different,
     states: &[FinalState],
 ) -> Result<Vec<OrderClass>, SendError>
     requires at { IsAtStart spec.now world.old }
-    requires tellable { AreTellable kind spec.now.run (length shows.now) states.now }
-    ensures { IfOk result (λ classes. AreClassesBy kind spec.now.run shows.now states.now classes.items) }
+    requires meant { AreMeant spec.now.run orders }
+    requires tellable { AreTellable orders.kind (run_by spec.now.run orders) (length shows.now) states.now }
+    ensures { IfOk result (λ classes. AreClassesBy orders.entry.kind (run_by spec.now.run orders.entry) shows.now states.now classes.items) }
 {
     let shown = shows.shows();
     // No memory has room for so many.
@@ -36,7 +38,7 @@ pub(crate) fn told_classes(
     };
     let tallies = tallies_of(alloc, numbers, states)?;
     let turn = in_turn(alloc, &tallies)?;
-    classes_by(alloc, world, spec, kind, shown, &turn)
+    classes_by(alloc, world, spec, orders, shown, &turn)
 }
 
 /// A class of each of these tallies.
@@ -44,18 +46,19 @@ fn classes_by(
     alloc: Global,
     world: &mut MarkedWorld<'_>,
     spec: &Spec,
-    kind: Kind,
+    orders: Orders<'_>,
     shown: &[Shows],
     tallies: &[Tally],
 ) -> Result<Vec<OrderClass>, SendError>
     requires at { IsAtStart spec.now world.old }
-    requires found { All (IsFound kind spec.now.run shown.now) tallies.now }
-    ensures { IfOk result (λ classes. AreToldBy kind spec.now.run shown.now tallies.now classes.items) }
+    requires meant { AreMeant spec.now.run orders }
+    requires found { All (IsFound orders.kind (run_by spec.now.run orders) shown.now) tallies.now }
+    ensures { IfOk result (λ classes. AreToldBy orders.entry.kind (run_by spec.now.run orders.entry) shown.now tallies.now classes.items) }
 {
     let mut classes = Vec::new(alloc);
     for tally in tallies {
         classes.reserve(1)?;
-        let class = class_of(alloc, world, spec, kind, shown, *tally)?;
+        let class = class_of(alloc, world, spec, orders, shown, *tally)?;
         classes.push_reserved(class);
     }
     Ok(classes)
@@ -66,16 +69,17 @@ fn class_of(
     alloc: Global,
     world: &mut MarkedWorld<'_>,
     spec: &Spec,
-    kind: Kind,
+    orders: Orders<'_>,
     shown: &[Shows],
     tally: Tally,
 ) -> Result<OrderClass, SendError>
     requires at { IsAtStart spec.now world.old }
-    requires found { IsFound kind spec.now.run shown.now tally }
-    ensures class { IfOk result (IsToldBy kind spec.now.run shown.now tally) }
+    requires meant { AreMeant spec.now.run orders }
+    requires found { IsFound orders.kind (run_by spec.now.run orders) shown.now tally }
+    ensures class { IfOk result (IsToldBy orders.entry.kind (run_by spec.now.run orders.entry) shown.now tally) }
     ensures back { OnOk result (IsAtStart spec.now world.new) }
 {
-    let line = order_at(world, spec, kind, tally.first)?;
+    let line = order_at(world, spec, orders, tally.first)?;
     let shows = shown[tally.number as usize].copied(alloc)?;
     Ok(OrderClass {
         shows,

@@ -21,6 +21,7 @@ use Rattle.test_commands.specs.declared.testing.TestFault.TheVariants.{Classes, 
 -- the record of the results of all orders that clients can send
 pub record WantsAll (wanted : WantedClasses) : Type 0 where
   pub sent : wanted.all_orders ≡ false
+  pub undrawn : wanted.sample ≡ None
   pub results : wanted.by_result ≡ true
   pub every : wanted.filters.items ≡ []
   pub looks : wanted.queries.items ≡ []

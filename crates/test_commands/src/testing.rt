@@ -96,6 +96,7 @@ fn all_of_classes(alloc: Global) -> WantedClasses<'static>
 {
     WantedClasses {
         all_orders: false,
+        sample: None,
         memory: DEFAULT_MEMORY,
         by_result: true,
         filters: Vec::new(alloc),

@@ -5,5 +5,5 @@ mod wanted;
 
 pub use wanted::{
     DEFAULT_MEMORY, WantedClasses, WantedExpectation, WantedFilter, WantedForm, WantedOutcomes,
-    WantedTest,
+    WantedSample, WantedTest,
 };

@@ -48,11 +48,22 @@ pub enum WantedForm {
 /// The states of a spec may take so many megabytes where no other number is wanted.
 pub const DEFAULT_MEMORY: u64 = 2_000;
 
+/// Orders that are drawn from all permutations.
+#[derive(Clone, Copy, Drop)]
+pub struct WantedSample {
+    /// How many are drawn, 1 at least. One may be drawn twice.
+    pub orders: u32,
+    /// The same seed draws the same orders.
+    pub seed: u64,
+}
+
 /// What is wanted of the classes of a spec.
 #[derive(Drop)]
 pub struct WantedClasses<'a> {
     /// All permutations are counted, and not only the orders that clients can send.
     pub all_orders: bool,
+    /// In place of all permutations these are run.
+    pub sample: Option<WantedSample>,
     /// Orders are grouped by their result alone: by rows, counts, errors and final rows, whoever waited.
     pub by_result: bool,
     /// An order is asked for where it passes all of these.

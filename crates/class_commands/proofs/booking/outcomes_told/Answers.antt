@@ -1,4 +1,4 @@
-use Rattle.std.proofs.Common.{◌∙◌, [], false, subst}
+use Rattle.std.proofs.Common.{None, ◌∙◌, [], false, subst}
 use Rattle.class_texts.specs.Pages.{Page}
 use Rattle.class_texts.specs.declared.kind.ClassKind.TheVariants.{Outcomes}
 use Rattle.class_commands.specs.Written.{IsWritten, written_bytes}
@@ -18,6 +18,7 @@ returns c =
               path = (c.as_str.ensures.value ∙ c.in_ok-name.ensures) k;
               orders = c.ranks.ensures k;
               all_orders = false;
+              sample = None;
               sessions = c.session_names.ensures.are k;
               steps = c.step_names.ensures.are k;
               tables = [];

@@ -4,14 +4,15 @@ use Rattle.order_classes.specs.declared.rows.ClassRow.{ClassRow}
 use Rattle.class_commands.specs.Classing.{IsFinding, grouping, kind_by}
 use Rattle.class_commands.specs.Parts.{IsTextOf, Writes}
 use Rattle.class_commands.proofs.ClassLemmas.{classes-run, not-run}
-use Rattle.class_commands.proofs.OpenedLemmas.{leasts-inside}
+use Rattle.class_commands.proofs.SampleLemmas.{counted-inside}
 use Rattle.class_commands.proofs.classing.tell.Goals as goal
 
 pub orders_for-requires-clause-ranks : goal.orders_for-requires-clause-ranks
 orders_for-requires-clause-ranks g c =
     let a = c.args.asked.now in
     subst (All (λ (row : ClassRow). row.least < ranks a.spec.run)) (sym c.as_slice-rows.ensures.value)
-    (leasts-inside (kind_by c.args.wanted.now.all_orders) a.tables.items a.spec.run a.asked.filters.items (grouping c.args.wanted.now.by_result) c.args.found.now c.requires.found)
+    (counted-inside (kind_by c.args.wanted.now.all_orders) a.tables.items a.spec.run a.asked.filters.items (grouping c.args.wanted.now.by_result) c.args.wanted.now.sample c.args.found.now
+    c.requires.found)
 
 pub returns-in-Err : goal.returns-in-Err
 returns-in-Err g c bytes is =

@@ -25,6 +25,7 @@ returns-clause-text c =
             path = c.args.path.now;
             orders = c.args.found.now.orders;
             all_orders = c.args.wanted.now.all_orders;
+            sample = c.seed_of.ensures k;
             sessions = c.session_names.ensures.are k;
             steps = c.step_names.ensures.are k;
             tables = c.args.tables.now;

@@ -9,7 +9,7 @@ pub found-requires : goal.found-requires
 found-requires g c =
     let p = c.in_ok-search.ensures.point in
     let run = c.args.spec.now.run in
-    let seen = c.finals.new.explored.search.seen in
+    let seen = c.finals-counted.new.explored.search.seen in
     let is : AreFinals point_rules seen (start_point c.args.kind run p.0) c.in-Ok.finals.items = subst (λ (x : Point). AreFinals point_rules seen x c.in-Ok.finals.items) p.2 c.in-Ok.ensures.finals in
     subst (λ fs. AreOver seen fs) (sym c.as_slice.ensures.value) (finals-over c.args.kind run p.0 seen c.in-Ok.finals.items is)
 
@@ -17,7 +17,7 @@ pub returns-in_ok-found-in-Ok-clause-counted : goal.returns-in_ok-found-in-Ok-cl
 returns-in_ok-found-in-Ok-clause-counted g c =
     let p = c.in_ok-search.ensures.point in
     let run = c.args.spec.now.run in
-    let search = c.finals.new.explored.search in
+    let search = c.finals-counted.new.explored.search in
     let finals = c.in-Ok.finals.items in
     let is : AreFinals point_rules search.seen (start_point c.args.kind run p.0) finals = subst (λ (x : Point). AreFinals point_rules search.seen x finals) p.2 c.in-Ok.ensures.finals in
     let tables : search.tables ≡ c.args.tables.now = c.in-Ok.ensures.fixed ∙ c.in_ok-search.ensures.tables in

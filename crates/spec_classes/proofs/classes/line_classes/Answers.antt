@@ -1,28 +1,24 @@
-use Rattle.std.proofs.Common.{◌<◌, ◌^◌, length, sym, subst, arith}
+use Rattle.std.proofs.Common.{◌<◌, ◌≢◌, ◌^◌, [], All, List, ℕ, length, sym, subst, arith}
 use Rattle.std.proofs.lemmas.Result.{IfOk-weaker}
-use Rattle.spec_classes.specs.Tallies.{AreTellable, AreClassesBy}
-use Rattle.spec_classes.proofs.Classing.{tellable, are-classes}
-use Rattle.spec_classes.proofs.LineTold.{lines-told}
+use Rattle.bound_specs.specs.Spec.{ranks as count_of}
+use Rattle.spec_classes.specs.Classes.{AreClassesOf, drawn}
+use Rattle.spec_classes.proofs.LineTold.{ranks-some, drawn-length}
 use Rattle.spec_classes.proofs.classes.line_classes.Goals as goal
 
-pub told_classes-requires-clause-tellable : goal.told_classes-requires-clause-tellable
-told_classes-requires-clause-tellable c =
-    let run = c.args.spec.now.run in
-    let shown = c.in_ok-found.found.shows in
-    let states = c.in_ok-found.found.states.items in
-    let few : length run.lines < 2 ^ 63 = omega (arith, c.ready.ensures.few_lines) in
-    let told = lines-told c.args.kind c.args.tables.now run shown states c.ranks_are_unique.ensures.alone c.known.ensures c.requires.lines few (c.in_ok-found.ensures.states c.args.kind) in
-    subst (λ fs. AreTellable c.args.kind run (length shown) fs) (sym c.deref.ensures.value)
-    (tellable c.args.kind c.args.tables.now run shown c.ranks_are_unique.ensures.alone states told)
+pub rank_classes-requires-clause-inside : goal.rank_classes-requires-clause-inside
+rank_classes-requires-clause-inside c = subst (All (λ r. r < count_of c.args.spec.now.run)) (sym c.deref.ensures.value) c.in_ok-ranks.ensures.inside
+
+pub rank_classes-requires-clause-some : goal.rank_classes-requires-clause-some
+rank_classes-requires-clause-some c =
+    subst (λ (l : List ℕ). l ≢ []) (sym c.deref.ensures.value) (ranks-some c.args.spec.now.run c.in_ok-ranks.ranks.items c.requires.lines c.in_ok-ranks.ensures.all)
 
 pub returns : goal.returns
-returns c =
-    let run = c.args.spec.now.run in
-    let shown = c.in_ok-found.found.shows in
-    let states = c.in_ok-found.found.states.items in
-    let few : length run.lines < 2 ^ 63 = omega (arith, c.ready.ensures.few_lines) in
-    let told = lines-told c.args.kind c.args.tables.now run shown states c.ranks_are_unique.ensures.alone c.known.ensures c.requires.lines few (c.in_ok-found.ensures.states c.args.kind) in
-    IfOk-weaker c.told_classes.result _ _
-    (λ classes is. are-classes c.args.kind c.args.tables.now run shown c.ranks_are_unique.ensures.alone states classes.items told
-    (subst (λ fs. AreClassesBy c.args.kind run shown fs classes.items) c.deref.ensures.value is) c.known.ensures)
-    c.told_classes.ensures
+returns c = IfOk-weaker c.rank_classes.result _ _
+    (λ classes are. subst (λ run. AreClassesOf c.args.kind c.args.tables.now run classes.items) c.in_ok-ranks.ensures.all
+    (subst (λ (l : List ℕ). AreClassesOf c.args.kind c.args.tables.now (drawn c.args.spec.now.run l) classes.items) c.deref.ensures.value are)) c.rank_classes.ensures
+
+pub rank_classes-requires-clause-few : goal.rank_classes-requires-clause-few
+rank_classes-requires-clause-few c =
+    let long = drawn-length c.args.spec.now.run c.in_ok-ranks.ranks.items c.in_ok-ranks.ensures.all in
+    let few = c.ready.ensures.few_lines in
+    subst (λ (l : List ℕ). length l < 2 ^ 63) (sym c.deref.ensures.value) (omega (arith, long, few))
