@@ -34,7 +34,10 @@ pub fn asked_of<'a>(
     ensures asked { IfOk result (IsAsked spec.now tables.now wanted.now) }
     ensures refused { IfErr result (IsRefused spec.now tables.now wanted.now) }
 {
-    let filters = match filters_of(alloc, spec, wanted.filters.as_slice()) {
+    let Ok(wanted_filters) = wanted.all_filters(alloc) else {
+        return Err(AskedFault::NoMemory);
+    };
+    let filters = match filters_of(alloc, spec, wanted.sample, wanted_filters.as_slice()) {
         Ok(filters) => filters,
         Err(fault) => return Err(fault),
     };

@@ -30,7 +30,7 @@ use Rattle.book_commands.specs.declared.finding.Finding.TheVariants.{Good, Bad}
 use Rattle.class_commands.specs.declared.asking.AskedSpec.{AskedSpec}
 use Rattle.class_commands.specs.declared.classing.ClassesFault.{ClassesFault}
 use Rattle.class_commands.specs.declared.classing.ClassesFault.TheVariants.{Spec, Asked, Run, TooMany, NoMemory, Write}
-use Rattle.class_commands.specs.Classing.{AreCounted, HasManyStates, IsClassesRun, IsFinding, IsMet, IsNotTold, IsTellingOf, expectation_over, grouping, kind_by, page_of, seen_of}
+use Rattle.class_commands.specs.Classing.{AreCounted, MayHaveManyStates, IsClassesRun, IsFinding, IsMet, IsNotTold, IsTellingOf, expectation_over, grouping, kind_by, page_of, seen_of}
 use Rattle.class_commands.specs.Opened.{IsWrittenAs}
 use Rattle.class_commands.specs.Parts.{IsAskedSpec, IsNotAskedSpec, IsNotFound, IsTextOf, Writes, finding_by}
 
@@ -93,13 +93,13 @@ module _ {W : Type 0} (contents : W → Option (List ℕ)) (old : Counted W) (by
       (refl, (a.spec, is.is_file, (a.tables.items, declares, ((a.asked, is.is_asked), is-not))))
 
   -- nor where there are too many states
-  not-explored : (a : AskedSpec) → IsAskedSpec bytes wanted a → (noted : ℕ) → HasManyStates a.spec → IsNotTold contents old old bytes path wanted (TooMany noted)
+  not-explored : (a : AskedSpec) → IsAskedSpec bytes wanted a → (noted : ℕ) → MayHaveManyStates wanted.sample a.spec → IsNotTold contents old old bytes path wanted (TooMany noted)
   not-explored a is noted many =
       let declares = subst (λ t. Declares t a.spec a.tables.items) (text-is bytes a.spec is.is_file) is.declares in
       (refl, (a.spec, is.is_file, (a.tables.items, declares, ((a.asked, is.is_asked), many))))
 
   -- nor where nothing is found of them
-  pub not-found : (a : AskedSpec) → IsAskedSpec bytes wanted a → (fault : ClassesFault) → IsNotFound a.spec fault → IsNotTold contents old old bytes path wanted fault
+  pub not-found : (a : AskedSpec) → IsAskedSpec bytes wanted a → (fault : ClassesFault) → IsNotFound wanted.sample a.spec fault → IsNotTold contents old old bytes path wanted fault
   not-found a is (Spec fault) never = absurd never
   not-found a is (Asked fault) never = absurd never
   not-found a is (Run error) is-not = not-run a is error is-not

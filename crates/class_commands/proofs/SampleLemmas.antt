@@ -1,22 +1,49 @@
 -- What is counted: all orders of a spec, or a sample of them.
+use Rattle.std.specs.Prelude.{◌%◌}
 use Rattle.std.proofs.Common.{◌≡◌, ◌≢◌, refl, sym, ap, ◌∙◌, subst, ℕ, zero, suc, ◌+◌, ◌<◌, ◌≤◌, max, List, [], ◌∷◌, ◌++◌, All, length, get_or, map, take, drop, set, slice_get, min, add-one, Option, Some, None, arith}
 use Rattle.std.proofs.lemmas.List.Elements.{All-cons, All-head, All-nil, All-tail}
 use Rattle.std.proofs.lemmas.List.{append_assoc, append-nil, drop_all, length-map, length-take, map-append, take_all}
 use Rattle.std.proofs.Math.Seq.{set-append_seam}
-use Rattle.std.specs.List.Sorted.{IsNonDecreasingBy}
+use Rattle.std.proofs.Math.Nat.{mod-lt}
+use Rattle.std.proofs.lemmas.List.Sorted.{All-permutation, length_permutation}
 use Rattle.binding_model.specs.declared.tables.Table.{Table}
 use Rattle.bound_specs.specs.Spec.{Spec, ranks}
 use Rattle.order_classes.specs.declared.letters.Filter.{Filter}
 use Rattle.order_classes.specs.declared.rows.ClassRow.{ClassRow}
 use Rattle.order_classes.specs.declared.rows.Grouping.{Grouping}
 use Rattle.spec_schedules.specs.declared.kind.Kind.{Kind}
+use Rattle.rand_xoshiro.specs.SplitMix64.{mix_u64}
 use Rattle.spec_classes.specs.Classes.{drawn}
-use Rattle.spec_classes.specs.Drawing.{AreDrawn}
+use Rattle.spec_classes.specs.Drawing.{AreDrawn, drawn_by}
 use Rattle.class_rows.specs.Pages.{IsClassed}
 use Rattle.class_rows.specs.declared.rows.Classed.{Classed}
 use Rattle.wanted_classes.specs.declared.wanted.WantedSample.{WantedSample}
 use Rattle.class_commands.specs.Classing.{AreCounted, IsCounted, IsToldOf, with_rank}
 use Rattle.class_commands.proofs.OpenedLemmas.{leasts-inside}
+
+-- ---- ranks that were drawn
+
+module _ (bound : ℕ) where
+  by-length : (state n : ℕ) → length (drawn_by state bound n) ≡ n
+  unfolding drawn_by
+  by-length state zero = refl
+  by-length state (suc n) = ap suc (by-length (mix_u64 state).1 n)
+
+  by-inside : (state n : ℕ) → 0 < bound → All (λ r. r < bound) (drawn_by state bound n)
+  unfolding drawn_by
+  by-inside state zero some = All-nil (λ r. r < bound)
+  by-inside state (suc n) some =
+      let word = (mix_u64 state).0 in
+      All-cons (λ r. r < bound) (word % bound) (drawn_by (mix_u64 state).1 bound n) (mod-lt word {m = bound} some) (by-inside (mix_u64 state).1 n some)
+
+module _ (seed count bound : ℕ) (rs : List ℕ) (draws : AreDrawn seed count bound rs) where
+  -- there are so many
+  pub drawn-long : length rs ≡ count
+  drawn-long = length_permutation (drawn_by seed bound count) rs draws.same ∙ by-length bound seed count
+
+  -- below the bound
+  pub drawn-inside : All (λ r. r < bound) rs
+  drawn-inside = All-permutation (λ r. r < bound) (drawn_by seed bound count) rs draws.same (by-inside bound seed count draws.some)
 
 module _ (kind : Kind) (tables : List Table) (run : Spec) (filters : List Filter) (by : Grouping) where
   -- all orders are counted as they are told
@@ -24,10 +51,11 @@ module _ (kind : Kind) (tables : List Table) (run : Spec) (filters : List Filter
   all-counted x are = record { ranks = []; counted = run; is_counted = refl; placed = x; are = are; is_told = refl }
 
   -- drawn orders are told by their ranks
-  pub drawn-counted : (sample : WantedSample) (rs : List ℕ) (x told : Classed) → AreDrawn (max 1 sample.orders) (ranks run) rs → IsNonDecreasingBy (λ r. r) rs
-      → IsClassed kind tables (drawn run rs) filters by x → told.orders ≡ x.orders → told.totals ≡ x.totals → told.rows.items ≡ map (with_rank rs) x.rows.items → AreCounted (Some sample) kind tables run filters by told
-  drawn-counted sample rs x told draws rise are orders totals rows =
-      record { ranks = rs; counted = drawn run rs; is_counted = (draws, rise, refl); placed = x; are = are; is_told = (orders, totals, rows) }
+  pub drawn-counted : (sample : WantedSample) (rs : List ℕ) (x told : Classed) → AreDrawn sample.seed (max 1 sample.orders) (ranks run) rs
+      → IsClassed kind tables (drawn run rs) filters by x → told.orders ≡ x.orders → told.totals ≡ x.totals
+      → told.rows.items ≡ map (with_rank rs) x.rows.items → AreCounted (Some sample) kind tables run filters by told
+  drawn-counted sample rs x told draws are orders totals rows =
+      record { ranks = rs; counted = drawn run rs; is_counted = (draws, refl); placed = x; are = are; is_told = (orders, totals, rows) }
 
   -- ---- the first rank of each class is one of the spec's
 
@@ -42,10 +70,6 @@ module _ (kind : Kind) (tables : List Table) (run : Spec) (filters : List Filter
     rows-inside (row ∷ rows) =
         All-cons (λ (r : ClassRow). r.least < ranks run) (with_rank rs row) (map (with_rank rs) rows) (at-inside rs each row.least) (rows-inside rows)
 
-  some-ranks : (rs : List ℕ) (n : ℕ) → length rs ≡ max 1 n → All (λ r. r < ranks run) rs → 0 < ranks run
-  some-ranks [] n long all = absurd (omega (arith, long))
-  some-ranks (r ∷ rs) n long all = let lt = All-head (λ r. r < ranks run) r rs all in omega (arith, lt)
-
   pub counted-inside : (sample : Option WantedSample) (told : Classed) → AreCounted sample kind tables run filters by told
       → All (λ (row : ClassRow). row.least < ranks run) told.rows.items
   counted-inside sample told x = at sample x.is_counted x.is_told
@@ -56,15 +80,16 @@ module _ (kind : Kind) (tables : List Table) (run : Spec) (filters : List Filter
           (leasts-inside kind tables run filters by x.placed (subst (λ r. IsClassed kind tables r filters by x.placed) is x.are))
       at (Some s) is same =
           subst (All (λ (row : ClassRow). row.least < ranks run)) (sym same.2)
-          (rows-inside x.ranks (some-ranks x.ranks s.orders is.0.long is.0.inside) is.0.inside x.placed.rows.items)
+          (rows-inside x.ranks is.0.some (drawn-inside s.seed (max 1 s.orders) (ranks run) x.ranks is.0) x.placed.rows.items)
 
 -- drawn orders are lines
 pub lines-drawn : (run : Spec) (rs : List ℕ) → rs ≢ [] → (drawn run rs).lines ≢ []
 lines-drawn run [] some none = some refl
 lines-drawn run (r ∷ rs) some none = absurd (cc)
 
-pub ranks-drawn : (count bound : ℕ) (rs : List ℕ) → 0 < count → AreDrawn count bound rs → rs ≢ []
-ranks-drawn count bound rs some draws none = absurd (let long = sym draws.long ∙ ap (λ (l : List ℕ). length l) none in omega (arith, some, long))
+pub ranks-drawn : (seed count bound : ℕ) (rs : List ℕ) → 0 < count → AreDrawn seed count bound rs → rs ≢ []
+ranks-drawn seed count bound rs some draws none =
+    absurd (let long = sym (drawn-long seed count bound rs draws) ∙ ap (λ (l : List ℕ). length l) none in omega (arith, some, long))
 
 -- ---- rows with their ranks
 

@@ -1,6 +1,5 @@
 -- What is written of the classes of a spec, from the bytes of its file.
 use Rattle.std.specs.Prelude.{◌≡◌, ◌↔◌, ℕ, max, Bool, true, false, cond, List, [], ◌∷◌, ◌++◌, get_or, map, flat_map, codes, All, Option, Some, None, Result, Ok, Err}
-use Rattle.std.specs.List.Sorted.{IsNonDecreasingBy}
 use Rattle.binding_model.specs.declared.tables.Table.{Table}
 use Rattle.bound_specs.specs.Spec.{Spec as Steps, SpecFile, ranks as ranks_of}
 use Rattle.bound_specs.specs.Binding.{IsFileOf}
@@ -32,6 +31,7 @@ use Rattle.class_texts.specs.Expected.{Expectation}
 use Rattle.class_texts.specs.Letters.{kind_of}
 use Rattle.class_texts.specs.Pages.{Page}
 use Rattle.wanted_classes.specs.declared.wanted.WantedClasses.{WantedClasses}
+use Rattle.wanted_classes.specs.Filters.{filters_of}
 use Rattle.wanted_classes.specs.declared.wanted.WantedFilter.{WantedFilter}
 use Rattle.wanted_classes.specs.declared.wanted.WantedSample.{WantedSample}
 use Rattle.wanted_classes.specs.declared.wanted.WantedTest.{WantedTest}
@@ -109,7 +109,7 @@ page_of path file tables levels wanted asked x =
       tables = tables;
       by = kind_of (grouping wanted.by_result);
       is_filtered = has_some asked.filters.items;
-      filters = filters_text wanted.filters.items;
+      filters = filters_text (filters_of wanted);
       missing = None;
       level_lines = levels;
       expectations = map (expectation_over x.rows.items) asked.expectations.items;
@@ -135,11 +135,11 @@ IsFinding rows expectations finding = (finding ≡ Good) ↔ All (IsMet rows) ex
 
 -- ---- the orders that are counted
 
--- all orders of the spec; or those of ranks that were drawn, one at least, each of which counts by itself, in rising order
+-- all orders of the spec; or those of ranks that were drawn, one where none are wanted, each of which counts by itself
 abbrev pub IsCounted : Option WantedSample → Steps → List ℕ → Steps → Type 0
 IsCounted None run ranks counted = counted ≡ run
 IsCounted (Some sample) run ranks counted =
-    AreDrawn (max 1 sample.orders) (ranks_of run) ranks × IsNonDecreasingBy (λ r. r) ranks × (counted ≡ drawn run ranks)
+    AreDrawn sample.seed (max 1 sample.orders) (ranks_of run) ranks × (counted ≡ drawn run ranks)
 
 -- the row with the rank that stands at its place
 abbrev pub with_rank : List ℕ → ClassRow → ClassRow
@@ -189,12 +189,13 @@ IsNotAsked bytes wanted Why = (file : SpecFile) × IsFileOf bytes file × ((tabl
 abbrev pub IsNotRun : SpecFile → List Table → WantedClasses → RunError → Type 0
 IsNotRun file tables wanted error = ((asked : AskedClasses) × IsAsked file tables wanted asked) × IsNotRunBy error (start file.run)
 
--- of a spec without permutation lines, which starts, there may be too many states
-abbrev pub HasManyStates : SpecFile → Type 0
-HasManyStates file = (file.run.lines ≡ []) × ((w : World) × (start file.run ≡ Started w))
+-- all orders are counted, the spec has no permutation lines, and it starts: too many states may be told
+abbrev pub MayHaveManyStates : Option WantedSample → SpecFile → Type 0
+MayHaveManyStates sample file = (sample ≡ None) × (file.run.lines ≡ []) × ((w : World) × (start file.run ≡ Started w))
 
+-- something is asked, and too many states may be told
 abbrev pub IsNotExplored : SpecFile → List Table → WantedClasses → Type 0
-IsNotExplored file tables wanted = ((asked : AskedClasses) × IsAsked file tables wanted asked) × HasManyStates file
+IsNotExplored file tables wanted = ((asked : AskedClasses) × IsAsked file tables wanted asked) × MayHaveManyStates wanted.sample file
 
 -- why classes are not written, and what that leaves in the writer: the bytes are no spec file; nothing is asked of it; the orders are not run; there is no
 -- room for all states; memory ran out; or a write fails, which leaves a front of such a text

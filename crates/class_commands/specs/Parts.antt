@@ -17,6 +17,7 @@ use Rattle.transcripts.specs.declared.counted.Counted.{Counted}
 use Rattle.class_rows.specs.declared.rows.Classed.{Classed}
 use Rattle.class_texts.specs.Expected.{Expectation, is_met}
 use Rattle.wanted_classes.specs.declared.wanted.WantedClasses.{WantedClasses}
+use Rattle.wanted_classes.specs.declared.wanted.WantedSample.{WantedSample}
 use Rattle.asked_classes.specs.Asking.{IsAsked, IsRefused}
 use Rattle.asked_classes.specs.declared.asking.AskedClasses.{AskedClasses}
 use Rattle.book_commands.specs.declared.finding.Finding.{Finding}
@@ -25,7 +26,7 @@ use Rattle.class_commands.specs.declared.asking.AskedSpec.{AskedSpec}
 use Rattle.class_commands.specs.declared.classing.ClassesFault.{ClassesFault}
 use Rattle.class_commands.specs.declared.classing.ClassesFault.TheVariants.{Spec, Asked, Run, TooMany, NoMemory, Write}
 use Rattle.class_commands.specs.Opened.{IsWrittenAs}
-use Rattle.class_commands.specs.Classing.{HasManyStates, IsNotAsked, page_of}
+use Rattle.class_commands.specs.Classing.{MayHaveManyStates, IsNotAsked, page_of}
 
 -- the spec file that the bytes are, with the tables that its main setups declare, and what is asked of it
 pub record IsAskedSpec (bytes : List ℕ) (wanted : WantedClasses) (a : AskedSpec) : Type 0 where
@@ -40,18 +41,18 @@ IsNotAskedSpec bytes wanted (Asked fault) = IsNotAsked bytes wanted (λ file tab
 IsNotAskedSpec bytes wanted NoMemory = Unit {0}
 IsNotAskedSpec bytes wanted fault = ⊥
 
--- why the orders of a spec are not counted: it does not start, or there is no room or memory
-abbrev pub IsNotCounted : SpecFile → StatesError → Type 0
-IsNotCounted file (states.Start error) = IsRefusedBy error (start file.run)
-IsNotCounted file (states.TooMany noted) = HasManyStates file
-IsNotCounted file states.Memory = Unit {0}
+-- why the orders of a spec are not counted: it does not start, too many states are told, or memory ran out
+abbrev pub IsNotCounted : Option WantedSample → SpecFile → StatesError → Type 0
+IsNotCounted sample file (states.Start error) = IsRefusedBy error (start file.run)
+IsNotCounted sample file (states.TooMany noted) = MayHaveManyStates sample file
+IsNotCounted sample file states.Memory = Unit {0}
 
--- why nothing is found of the orders of a spec: it does not start, there is no room for all states, or memory ran out
-abbrev pub IsNotFound : SpecFile → ClassesFault → Type 0
-IsNotFound file (Run error) = IsNotRunBy error (start file.run)
-IsNotFound file (TooMany noted) = HasManyStates file
-IsNotFound file NoMemory = Unit {0}
-IsNotFound file fault = ⊥
+-- why nothing is found of the orders of a spec: it does not start, too many states are told, or memory ran out
+abbrev pub IsNotFound : Option WantedSample → SpecFile → ClassesFault → Type 0
+IsNotFound sample file (Run error) = IsNotRunBy error (start file.run)
+IsNotFound sample file (TooMany noted) = MayHaveManyStates sample file
+IsNotFound sample file NoMemory = Unit {0}
+IsNotFound sample file fault = ⊥
 
 -- the text is the page of what is found
 abbrev pub IsTextOf : List ℕ → SpecFile → List Table → WantedClasses → AskedClasses → Classed → List ℕ → Type 0

@@ -1,6 +1,6 @@
 //! Orders of a spec in classes, from the bytes of the spec to the text that is written.
 
-ghost use Rattle.std.specs.Prelude.{◌≡◌, ◌<◌, ℕ, IfErr, IfOk, List};
+ghost use Rattle.std.specs.Prelude.{◌≡◌, ◌<◌, ℕ, IfErr, IfOk, List, None, Option};
 ghost use Rattle.binding_model.specs.declared.tables.Table.{Table as Declared};
 ghost use Rattle.machine_model.specs.Start.{Started, start};
 ghost use Rattle.machine_model.specs.World.{World};
@@ -8,6 +8,7 @@ ghost use Rattle.spec_texts.specs.Texts.{Declares};
 ghost use Rattle.transcripts.specs.Counted.{failures_of};
 ghost use Rattle.class_rows.specs.Pages.{IsClassed};
 ghost use Rattle.class_rows.specs.Telling.{AreFound, IsSerialOf};
+ghost use Rattle.wanted_classes.specs.declared.wanted.WantedSample.{WantedSample as Sample};
 ghost use Rattle.class_commands.specs.Classing.{AreCounted, IsClassesRun, IsFinding, grouping, kind_by};
 ghost use Rattle.class_commands.specs.Opened.{HasOrders};
 ghost use Rattle.bound_specs.specs.Spec.{Spec as Run, SpecFile};
@@ -122,7 +123,7 @@ fn found_of<'a, V: Watch>(
 ) -> Result<Classed, ClassesFault<'a>>
     ensures found { IfOk result (AreCounted wanted.now.sample (kind_by wanted.now.all_orders) asked.now.tables.items asked.now.spec.run asked.now.asked.filters.items (grouping wanted.now.by_result)) }
     ensures starts { IfOk result (λ _. (w : World) × (start asked.now.spec.run ≡ Started w)) }
-    ensures refused { IfErr result (IsNotFound asked.now.spec) }
+    ensures refused { IfErr result (IsNotFound wanted.now.sample asked.now.spec) }
 {
     let explored = Explored {
         spec: &asked.spec,
@@ -142,7 +143,7 @@ fn found_of<'a, V: Watch>(
 
 /// Why classes are not written whose orders were not counted.
 fn fault_of<'a>(error: StatesError) -> ClassesFault<'a>
-    ensures { (file : SpecFile) → IsNotCounted file error → IsNotFound file result }
+    ensures { (sample : Option Sample) (file : SpecFile) → IsNotCounted sample file error → IsNotFound sample file result }
 {
     match error {
         StatesError::Start(StartError::NoMemory) => ClassesFault::NoMemory,
@@ -187,7 +188,7 @@ fn counted<V: Watch>(
 ) -> Result<Classed, StatesError>
     ensures found { IfOk result (AreCounted sample explored.entry.kind explored.entry.tables.now explored.entry.spec.now.run asked.entry.filters.now asked.entry.by) }
     ensures starts { IfOk result (λ _. (w : World) × (start explored.entry.spec.now.run ≡ Started w)) }
-    ensures refused { IfErr result (IsNotCounted explored.entry.spec.now) }
+    ensures refused { IfErr result (IsNotCounted sample explored.entry.spec.now) }
 {
     match sample {
         None => found_in(alloc, explored, asked, watch),
@@ -204,7 +205,7 @@ fn found_in<V: Watch>(
 ) -> Result<Classed, StatesError>
     ensures found { IfOk result (IsClassed explored.entry.kind explored.entry.tables.now explored.entry.spec.now.run asked.entry.filters.now asked.entry.by) }
     ensures starts { IfOk result (λ _. (w : World) × (start explored.entry.spec.now.run ≡ Started w)) }
-    ensures refused { IfErr result (IsNotCounted explored.entry.spec.now) }
+    ensures refused { IfErr result (IsNotCounted None explored.entry.spec.now) }
 {
     let Explored {
         spec,
@@ -233,7 +234,7 @@ fn told_with<'a>(
     requires { (kind : Sort) × (tables : List Declared) × (run : Run) × AreFound kind tables run (record { classes = classes; serial = serial }) }
     ensures told { (kind : Sort) (tables : List Declared) (run : Run) → AreFound kind tables run (record { classes = classes.entry; serial = serial.entry })
         → IfOk result (IsClassed kind tables run asked.entry.filters.now asked.entry.by) }
-    ensures refused { (file : SpecFile) → IfErr result (IsNotCounted file) }
+    ensures refused { (file : SpecFile) → IfErr result (IsNotCounted None file) }
 {
     let found = FoundOrders { classes, serial };
     match classed(alloc, &found, asked) {
@@ -250,7 +251,7 @@ fn serial_of(
     room: usize,
 ) -> Result<Option<Different>, StatesError>
     ensures answers { IfOk result (λ serial. IsSerialOf tables.now spec.now.run serial) }
-    ensures refused { IfErr result (IsNotCounted spec.now) }
+    ensures refused { IfErr result (IsNotCounted None spec.now) }
 {
     match spec.shape() {
         Some(_) => match serial_answers(alloc, spec, tables, room) {

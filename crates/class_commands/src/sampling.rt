@@ -7,6 +7,7 @@ ghost use Rattle.machine_model.specs.World.{World};
 ghost use Rattle.order_classes.specs.declared.rows.ClassRow.{ClassRow as Row};
 ghost use Rattle.class_rows.specs.Pages.{IsClassed};
 ghost use Rattle.spec_classes.specs.Classes.{drawn};
+ghost use Rattle.wanted_classes.specs.declared.wanted.WantedSample.{WantedSample as Sample};
 ghost use Rattle.class_commands.specs.Classing.{AreCounted, with_rank};
 ghost use Rattle.class_commands.specs.Parts.{IsNotCounted};
 
@@ -28,7 +29,7 @@ pub(crate) fn drawn_from(
 ) -> Result<Classed, StatesError>
     ensures found { IfOk result (AreCounted (Some sample) explored.entry.kind explored.entry.tables.now explored.entry.spec.now.run asked.entry.filters.now asked.entry.by) }
     ensures starts { IfOk result (λ _. (w : World) × (start explored.entry.spec.now.run ≡ Started w)) }
-    ensures refused { IfErr result (IsNotCounted explored.entry.spec.now) }
+    ensures refused { IfErr result (IsNotCounted (Some sample) explored.entry.spec.now) }
 {
     let spec = explored.spec;
     let Ok(ranks) = drawn_ranks(alloc, sample.seed, count_of(sample), ranks_of(spec)) else {
@@ -74,9 +75,15 @@ fn placed(
     requires few { length ranks.now < 2 ^ 63 }
     ensures found { IfOk result (IsClassed explored.entry.kind explored.entry.tables.now (drawn explored.entry.spec.now.run ranks.now) asked.entry.filters.now asked.entry.by) }
     ensures starts { IfOk result (λ _. (w : World) × (start explored.entry.spec.now.run ≡ Started w)) }
-    ensures refused { IfErr result (IsNotCounted explored.entry.spec.now) }
+    ensures refused { (sample : Sample) → IfErr result (IsNotCounted (Some sample) explored.entry.spec.now) }
 {
-    let classes = match drawn_classes(alloc, explored.spec, explored.tables, explored.kind, ranks) {
+    let Explored {
+        spec,
+        tables,
+        kind,
+        room,
+    } = explored;
+    let classes = match drawn_classes(alloc, spec, tables, kind, ranks, room) {
         Ok(classes) => classes,
         Err(error) => return Err(error),
     };

@@ -45,7 +45,8 @@ pub(crate) fn told<'a>(
     let looks = looks_over(alloc, asked.looks.as_slice(), rows)?;
     let expectations = expectations_over(alloc, asked.expectations.as_slice(), rows)?;
     let levels = level_lines(alloc, spec)?;
-    let filters = filters_text(alloc, wanted.filters.as_slice())?;
+    let wanted_filters = wanted.all_filters(alloc)?;
+    let filters = filters_text(alloc, wanted_filters.as_slice())?;
     let page = Page {
         path,
         orders: found.orders,

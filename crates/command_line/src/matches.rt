@@ -218,22 +218,7 @@ fn filters_of_words<'a>(
     for flags in &FLAGS {
         push_flags(words, flags, &mut filters)?;
     }
-    push_sendable(words, &mut filters)?;
     Ok(filters)
-}
-
-/// Of a sample those orders alone are asked for that clients can send, unless all are.
-fn push_sendable<'a>(
-    words: &ArgMatches<'a>,
-    filters: &mut Vec<WantedFilter<'a>>,
-) -> Result<(), AllocError> {
-    if sample_of_words(words).is_some() && !words.get_flag("all-orders") {
-        filters.push(WantedFilter {
-            test: WantedTest::NotSent,
-            wanted: false,
-        })?;
-    }
-    Ok(())
 }
 
 fn push_flags<'a>(

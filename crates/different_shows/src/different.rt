@@ -9,11 +9,17 @@ use std::alloc::{AllocError, Global};
 use std::collections::BTreeMap;
 use std::marker::Model;
 
+/// About so many bytes are taken by one that is shown beside its rows, and by each of its rows: it is held here twice, by its class, and by the row of that.
+const SHOWS_BYTES: usize = 2_048;
+
+const ROW_BYTES: usize = 128;
+
 /// What is shown, each once, in the order of numbers, seen by contracts as that list.
 pub struct Different {
     alloc: Global,
     shows: Vec<Shows>,
     numbers: BTreeMap<Shows, u32>,
+    bytes: usize,
 }
 
 // Written out and not derived, so that who owns one calls this and does not let its parts go one by one.
@@ -23,6 +29,7 @@ impl Drop for Different {
             alloc: _,
             shows: _shows,
             numbers: _numbers,
+            bytes: _,
         } = self;
     }
 }
@@ -47,7 +54,13 @@ impl Different {
             alloc,
             shows: Vec::new(alloc),
             numbers: BTreeMap::new(alloc),
+            bytes: 0,
         }
+    }
+
+    /// About so many bytes are taken by classes of all of them while they are told.
+    pub fn bytes(&self) -> usize {
+        self.bytes
     }
 
     /// Each is there once.
@@ -97,6 +110,16 @@ impl Different {
         self.shows.reserve(1)?;
         self.numbers.insert(key, number)?;
         self.shows.push_reserved(copy);
+        self.bytes = self.bytes.saturating_add(bytes_of(shows));
         Ok(number)
     }
+}
+
+fn bytes_of(shows: &Shows) -> usize {
+    let mut bytes = SHOWS_BYTES;
+    for table in shows.left.as_slice() {
+        let rows = table.as_slice();
+        bytes = bytes.saturating_add(rows.len().saturating_mul(ROW_BYTES));
+    }
+    bytes
 }

@@ -17,7 +17,7 @@ use Rattle.spec_commands.specs.declared.showing.WantedOrder.TheVariants.{Rank}
 use Rattle.spec_findings.specs.Told.{AreTold}
 use Rattle.wanted_classes.specs.declared.wanted.WantedClasses.{WantedClasses}
 use Rattle.wanted_classes.specs.declared.wanted.WantedForm.TheVariants as form
-use Rattle.class_commands.specs.Classing.{HasManyStates, IsTellingOf}
+use Rattle.class_commands.specs.Classing.{MayHaveManyStates, IsTellingOf}
 use Rattle.class_commands.specs.declared.classing.ClassesFault.{ClassesFault}
 use Rattle.class_commands.specs.declared.classing.ClassesFault.TheVariants as classes_fault
 use Rattle.page_core.specs.Ends.{classes_end, end_of, show_end, spec_end}
@@ -69,7 +69,7 @@ IsShowCall bytes name rank old new end answered =
 
 -- ---- all orders in classes
 
--- all orders as JSON, by all that they show or by what they answer
+-- all orders that clients can send as JSON, by all that they show or by what they answer
 pub record IsWanted (answers : Bool) (wanted : WantedClasses) : Type 0 where
   pub sent : wanted.all_orders ≡ false
   pub undrawn : wanted.sample ≡ None
@@ -87,7 +87,7 @@ abbrev pub AreNotTold : List ℕ → ClassesFault → Type 0
 AreNotTold bytes (classes_fault.Spec fault) = IsNoSpec bytes fault
 AreNotTold bytes (classes_fault.Run error) = (file : SpecFile) × IsFileOf bytes file × IsNotRunBy error (start file.run)
 AreNotTold bytes (classes_fault.Asked fault) = Unit {0}
-AreNotTold bytes (classes_fault.TooMany noted) = (file : SpecFile) × IsFileOf bytes file × HasManyStates file
+AreNotTold bytes (classes_fault.TooMany noted) = (file : SpecFile) × IsFileOf bytes file × MayHaveManyStates None file
 AreNotTold bytes classes_fault.NoMemory = Unit {0}
 AreNotTold bytes (classes_fault.Write fault) = Unit {0}
 

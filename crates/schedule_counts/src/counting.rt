@@ -89,7 +89,7 @@ impl From<StartError> for StatesError {
 const MOST_WORLDS: usize = 0xffff_ffff;
 
 /// Counts the orders of a spec without permutation lines, with these tables, by the states in which they end. Worlds are noted while those that were noted take
-/// fewer bytes than `room`.
+/// fewer bytes than `room`, together with what their classes will take.
 pub fn final_states<'a, W: Watch>(
     alloc: Global,
     spec: &'a Spec,

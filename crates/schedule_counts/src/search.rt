@@ -42,7 +42,7 @@ pub(crate) struct Search<'a> {
     pub(crate) marks: Vec<Place>,
     pub(crate) noted: Vec<Noted>,
     pub(crate) shown: Different,
-    /// The machine's worlds may take so many bytes.
+    /// The machine's worlds and what was shown may take so many bytes.
     pub(crate) room: usize,
 }
 
@@ -167,7 +167,8 @@ impl Search<'_> {
         ensures whole { OnOk result (self.old.spent ≡ false) }
         ensures same { self.new ≡ record self.old { worlds = self.new.worlds } }
     {
-        world_number(&mut self.machine, self.room)
+        let room = self.room_for_worlds();
+        world_number(&mut self.machine, room)
     }
 
     /// Whether the point now was noted under this number, which is that of its world.
@@ -230,9 +231,14 @@ impl Search<'_> {
         self.noted.len() as u64
     }
 
-    /// Whether the worlds that were noted take the room that there is.
+    /// Whether the worlds that were noted take the room that what was shown leaves them.
     pub(crate) fn is_full(&self) -> bool {
-        self.machine.noted_bytes() >= self.room
+        self.machine.noted_bytes() >= self.room_for_worlds()
+    }
+
+    /// So many bytes are left for the machine's worlds by what was shown.
+    fn room_for_worlds(&self) -> usize {
+        self.room.saturating_sub(self.shown.bytes())
     }
 }
 

@@ -1,15 +1,11 @@
 -- Below any limit as many numbers leave one rest as leave any other, up to one.
-use Rattle.std.proofs.Common.{◌≡◌, refl, sym, ap, ◌∙◌, subst, ℕ, zero, suc, ◌+◌, ◌*◌, ◌<◌, ◌≤◌, Bool, true, false, nat_lt, All, List, [], ◌∷◌, ◌++◌, length, length-append, ◌⊎◌, inl, inr, arith}
+use Rattle.std.proofs.Common.{◌≡◌, refl, sym, ap, ◌∙◌, subst, ℕ, zero, suc, ◌+◌, ◌*◌, ◌<◌, ◌≤◌, Bool, true, false, nat_lt, List, [], ◌∷◌, length, ◌⊎◌, inl, inr, arith}
 use Rattle.std.specs.Prelude.{◌/◌, ◌%◌}
 use Rattle.std.proofs.Math.Nat.{mul-le-mul_right, mod-lt}
 use Rattle.std.proofs.lemmas.Nat.{div-add-mod', mod-mul-add}
 use Rattle.std.proofs.lemmas.Bool.{ltb-true, ltb-false}
-use Rattle.std.specs.List.Sorted.{IsPermutation}
-use Rattle.std.proofs.lemmas.List.Elements.{All-push}
-use Rattle.std.proofs.lemmas.List.Sorted.{All-permutation, length_permutation}
 use Rattle.lock_queues.specs.Reasons.{Among}
 use Rattle.order_classes.specs.Numbers.{RiseFrom, IsNumberOf}
-use Rattle.spec_classes.specs.Drawing.{StandsFor, AreDrawn}
 
 -- so many numbers from x on, each larger by b
 abbrev stepped : ℕ → ℕ → ℕ → List ℕ
@@ -104,21 +100,3 @@ module _ (limit b r : ℕ) (inside : r < b) where
 
           past : (k : ℕ) → limit / b ≤ k → limit ≤ k * b + r
           past k l = let le = mul-le-mul_right {m = limit / b} {n = k} b l in let e = rest in omega (arith, le, e, ge)
-
--- ---- ranks that were drawn
-
--- in any order they are drawn
-pub drawn-sorted : (count bound : ℕ) (rs qs : List ℕ) → IsPermutation rs qs → AreDrawn count bound rs → AreDrawn count bound qs
-drawn-sorted count bound rs qs same drawn = record {
-  long = length_permutation rs qs same ∙ drawn.long;
-  inside = All-permutation (λ r. r < bound) rs qs same drawn.inside;
-  each = All-permutation (λ rank. (word : ℕ) × StandsFor bound rank word) rs qs same drawn.each;
-}
-
--- one more
-pub drawn-more : (count bound : ℕ) (rs qs : List ℕ) (rank word : ℕ) → 0 < bound → StandsFor bound rank word → qs ≡ rs ++ rank ∷ [] → AreDrawn count bound rs → AreDrawn (count + 1) bound qs
-drawn-more count bound rs qs rank word some so more drawn = record {
-  long = ap (λ (l : List ℕ). length l) more ∙ length-append rs (rank ∷ []) ∙ ap (λ n. n + 1) drawn.long;
-  inside = subst (All (λ r. r < bound)) (sym more) (All-push (λ r. r < bound) rs rank drawn.inside (let e = so.1 in let small = mod-lt word {m = bound} some in omega (arith, e, small)));
-  each = subst (All (λ r. (w : ℕ) × StandsFor bound r w)) (sym more) (All-push (λ r. (w : ℕ) × StandsFor bound r w) rs rank drawn.each (word, so));
-}

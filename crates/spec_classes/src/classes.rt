@@ -49,7 +49,7 @@ impl Drop for OrderClass {
 }
 
 /// The orders of this kind of a spec with these tables, in classes in the order of their first ranks. Of a spec with permutation lines these are the orders.
-/// At most `room` bytes of different states are noted.
+/// At most `room` bytes are taken by the different states that are noted, and by classes.
 pub fn classes_of<W: Watch>(
     alloc: Global,
     spec: &Spec,
@@ -68,7 +68,7 @@ pub fn classes_of<W: Watch>(
         Err(error) => return Err(error),
     };
     if spec.has_lines() {
-        return match line_classes(alloc, &mut world, spec, tables, kind) {
+        return match line_classes(alloc, &mut world, spec, tables, kind, room) {
             Ok(classes) => Ok(classes),
             Err(_) => Err(StatesError::Memory),
         };
@@ -84,12 +84,14 @@ pub fn classes_of<W: Watch>(
 }
 
 /// The orders of these ranks of a spec in classes, each run by itself: the rank of an order is its place among them. A rank that stands there twice counts twice.
+/// Classes that take more than `room` bytes are refused as if memory had run out.
 pub fn drawn_classes(
     alloc: Global,
     spec: &Spec,
     tables: &[Table],
     kind: Kind,
     ranks: &[u64],
+    room: usize,
 ) -> Result<Vec<OrderClass>, StatesError>
     requires inside { All (λ r. r < count_of spec.now.run) ranks.now }
     requires some { ranks.now ≢ [] }
@@ -103,7 +105,7 @@ pub fn drawn_classes(
         Ok(world) => world,
         Err(error) => return Err(error),
     };
-    match rank_classes(alloc, &mut world, spec, tables, kind, ranks) {
+    match rank_classes(alloc, &mut world, spec, tables, kind, ranks, room) {
         Ok(classes) => Ok(classes),
         Err(_) => Err(StatesError::Memory),
     }
@@ -116,6 +118,7 @@ fn line_classes(
     spec: &Spec,
     tables: &[Table],
     kind: Kind,
+    room: usize,
 ) -> Result<Vec<OrderClass>, SendError>
     requires at { IsAtStart spec.now world.old }
     requires lines { spec.now.run.lines ≢ [] }
@@ -123,7 +126,7 @@ fn line_classes(
 {
     spec.ready();
     let ranks = line_ranks(alloc, spec)?;
-    rank_classes(alloc, world, spec, tables, kind, &ranks)
+    rank_classes(alloc, world, spec, tables, kind, &ranks, room)
 }
 
 /// The ranks of the permutation lines of a spec.
@@ -147,6 +150,7 @@ fn rank_classes(
     tables: &[Table],
     kind: Kind,
     ranks: &[u64],
+    room: usize,
 ) -> Result<Vec<OrderClass>, SendError>
     requires at { IsAtStart spec.now world.old }
     requires inside { All (λ r. r < count_of spec.now.run) ranks.now }
@@ -154,7 +158,7 @@ fn rank_classes(
     requires few { length ranks.now < 2 ^ 63 }
     ensures { IfOk result (λ classes. AreClassesOf kind tables.now (drawn spec.now.run ranks.now) classes.items) }
 {
-    let found = line_states(alloc, world, spec, tables, ranks)?;
+    let found = line_states(alloc, world, spec, tables, ranks, room)?;
     found.shows.known();
     ranks_are_unique();
     let orders = Orders {

@@ -8,7 +8,7 @@ ghost use Rattle.spec_classes.specs.Classes.{drawn};
 ghost use Rattle.spec_classes.specs.Showing.{IsAtStart};
 ghost use Rattle.spec_classes.specs.Told.{AreOfLines, IsOfLine};
 
-use crate::showing::shown_by;
+use crate::showing::{shown_by, within};
 use binding_model::Table;
 use bound_specs::Spec;
 use different_shows::Different;
@@ -33,13 +33,14 @@ impl Drop for LineStates {
     }
 }
 
-/// Runs the orders of these ranks.
+/// Runs the orders of these ranks, if their classes take no more than `room` bytes.
 pub(crate) fn line_states(
     alloc: Global,
     world: &mut MarkedWorld<'_>,
     spec: &Spec,
     tables: &[Table],
     ranks: &[u64],
+    room: usize,
 ) -> Result<LineStates, SendError>
     requires at { IsAtStart spec.now world.old }
     requires inside { All (λ r. r < count_of spec.now.run) ranks.now }
@@ -52,6 +53,7 @@ pub(crate) fn line_states(
         states.reserve(1)?;
         let state = line_state(alloc, world, spec, tables, ranks, place, &mut shows)?;
         states.push_reserved(state);
+        within(room, &shows)?;
     }
     Ok(LineStates { shows, states })
 }

@@ -12,6 +12,7 @@ ghost use Rattle.spec_classes.specs.Serial.{AreOnce, IsAnswerBehind, IsAnswerFro
 ghost use Rattle.spec_classes.specs.Showing.{IsAtStart};
 
 use crate::answered::{Answered, Left};
+use crate::showing::within;
 use crate::start::started;
 use binding_model::Table;
 use bound_specs::Spec;
@@ -25,7 +26,7 @@ use std::alloc::Global;
 use world_shows::shows_of;
 
 /// What the orders answer that run the sessions one behind the other, each whole: each answer once. It is asked of a spec without permutation lines.
-/// At most `room` bytes of different states are noted.
+/// At most `room` bytes are taken by the different states that are noted, and by the answers.
 pub fn serial_answers(
     alloc: Global,
     spec: &Spec,
@@ -91,10 +92,10 @@ fn add_orders(
 {
     let none = [0; MAX_SESSIONS];
     if left == none {
-        add_answer(alloc, world, tables, answered)?;
+        add_answer(alloc, world, tables, room, answered)?;
         return Ok(());
     }
-    let number = world.number_within(room)?;
+    let number = world.number_within(room.saturating_sub(answered.answers.bytes()))?;
     if answered.has(number, left) {
         return Ok(());
     }
@@ -169,11 +170,12 @@ fn send_session(world: &mut MarkedWorld<'_>, session: u8) -> Result<(), SendErro
     Ok(())
 }
 
-/// Adds what is answered in the world now.
+/// Adds what is answered in the world now, if the answers take no more than the room.
 fn add_answer(
     alloc: Global,
     world: &mut MarkedWorld<'_>,
     tables: &[Table],
+    room: usize,
     answered: &mut Answered,
 ) -> Result<(), SendError>
     requires { IsReady tables.now world.old answered.old }
@@ -182,5 +184,6 @@ fn add_answer(
     let shows = shows_of(alloc, world, tables)?;
     let answer = answers_of(alloc, &shows)?;
     answered.answers.number(&answer)?;
+    within(room, &answered.answers)?;
     Ok(())
 }

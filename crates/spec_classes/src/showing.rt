@@ -8,6 +8,7 @@ ghost use Rattle.spec_classes.specs.Showing.{AreSteps, IsAtStart};
 
 use binding_model::Table;
 use bound_specs::Spec;
+use different_shows::Different;
 use marked_worlds::MarkedWorld;
 use order_classes::Shows;
 use session_steps::SendError;
@@ -59,6 +60,14 @@ fn send_all(world: &mut MarkedWorld<'_>, line: &[u8]) -> Result<(), SendError>
 {
     for step in line {
         world.send(*step)?;
+    }
+    Ok(())
+}
+
+/// Memory is taken to have run out where what is shown takes more than `room` bytes.
+pub(crate) fn within(room: usize, shows: &Different) -> Result<(), SendError> {
+    if shows.bytes() > room {
+        return Err(SendError::NoMemory);
     }
     Ok(())
 }

@@ -1,9 +1,11 @@
 -- Why a spec is not tested.
-use Rattle.std.proofs.Common.{◌≡◌, ⊎_elim, subst, ℕ, List, [], Option, Some, slice_get}
+use Rattle.std.proofs.Common.{◌≡◌, ⊎_elim, subst, ℕ, List, [], ◌++◌, Option, Some, slice_get}
+use Rattle.std.specs.Option.{option_to_list}
 use Rattle.transcripts.specs.declared.counted.Counted.{Counted}
 use Rattle.binding_model.specs.declared.tables.Table.{Table}
 use Rattle.bound_specs.specs.Spec.{SpecFile}
 use Rattle.wanted_classes.specs.declared.wanted.WantedClasses.{WantedClasses}
+use Rattle.wanted_classes.specs.Filters.{filters_of, of_sample}
 use Rattle.asked_classes.specs.Asking.{IsRefused}
 use Rattle.asked_classes.specs.First.{RefusedAtFirst}
 use Rattle.asked_classes.specs.declared.fault.AskedFault.{AskedFault}
@@ -24,11 +26,15 @@ abbrev pub IsWant : AskedFault → Type 0
 IsWant asked.NoMemory = Unit {0}
 IsWant other = ⊥
 
+-- no filters are wanted
+no-filters : (wanted : WantedClasses) → WantsAll wanted → filters_of wanted ≡ []
+no-filters wanted all = λ k. all.every k ++ option_to_list (of_sample (all.undrawn k) (all.sent k))
+
 -- that all is asked is refused for want of memory alone
 all-asked : (wanted : WantedClasses) → WantsAll wanted → (file : SpecFile) (tables : List Table) (error : AskedFault) → IsRefused file tables wanted error → IsWant error
 all-asked wanted all file tables asked.NoMemory h = tt
 all-asked wanted all file tables error h =
-    ⊎_elim (λ first. none-first _ _ wanted.filters.items error all.every first)
+    ⊎_elim (λ first. none-first _ _ (filters_of wanted) error (no-filters wanted all) first)
     (λ rest. ⊎_elim (λ looks. none-first _ _ wanted.queries.items error all.looks looks.1)
     (λ expectations. none-first _ _ wanted.expectations.items error all.expectations expectations.1) rest) h
 

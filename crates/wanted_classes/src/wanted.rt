@@ -1,5 +1,10 @@
 //! What may be wanted of the classes of a spec.
 
+ghost use Rattle.std.specs.Prelude.{◌≡◌, IfOk};
+ghost use Rattle.wanted_classes.specs.Filters.{filters_of, of_sample};
+
+use std::alloc::{AllocError, Global};
+
 /// What an order may show, with sessions by their names.
 #[derive(Clone, Copy, Drop)]
 pub enum WantedTest<'a> {
@@ -81,6 +86,33 @@ pub struct WantedClasses<'a> {
     pub form: WantedForm,
     /// So many megabytes may be taken by states.
     pub memory: u64,
+}
+
+impl<'a> WantedClasses<'a> {
+    /// The filters that are wanted; and behind them, of a sample, that each step is sent, unless all orders are wanted.
+    pub fn all_filters(&self, alloc: Global) -> Result<Vec<WantedFilter<'a>>, AllocError>
+        ensures { IfOk result (λ filters. filters.items ≡ filters_of self.now) }
+    {
+        let mut filters = Vec::new(alloc);
+        filters.extend_from_slice(self.filters.as_slice())?;
+        if let Some(filter) = of_sample(self.sample, self.all_orders) {
+            filters.push(filter)?;
+        }
+        Ok(filters)
+    }
+}
+
+/// What is asked of the orders of a sample beside what the filters ask that are wanted.
+fn of_sample<'a>(sample: Option<WantedSample>, all_orders: bool) -> Option<WantedFilter<'a>>
+    ensures { result ≡ of_sample sample all_orders }
+{
+    match sample {
+        Some(_) if !all_orders => Some(WantedFilter {
+            test: WantedTest::NotSent,
+            wanted: false,
+        }),
+        _ => None,
+    }
 }
 
 /// What is wanted of the classes of what books tell.

@@ -16,7 +16,7 @@ returns-clause-text c =
     let filtered = c.has_some.ensures ∙ ap has_some c.as_slice-4.ensures.value in
     let looks =
     c.as_slice-7.ensures.value ∙ c.in_ok-looks.ensures ∙ (λ k. map (look_over (c.as_slice-rows.ensures.value k)) (c.as_slice.ensures.value k)) in
-    let filters = c.as_str.ensures.value ∙ c.in_ok-filters.ensures ∙ ap filters_text c.as_slice-3.ensures.value in
+    let filters = c.as_str.ensures.value ∙ c.in_ok-filters.ensures ∙ ap filters_text (c.as_slice-3.ensures.value ∙ c.in_ok-wanted_filters.ensures) in
     let levels = c.as_slice-5.ensures.value in (
       c.in_ok-levels.levels.items,
       c.in_ok-levels.ensures,
