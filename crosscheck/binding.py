@@ -47,6 +47,7 @@ class Spec:
     step_names: list
     steps: list = field(default_factory=list)  # the number of the session and the statements
     lines: list | None = None
+    level: str | None = None  # that of a transaction whose BEGIN names none, where levels are asked for
 
     def counts(self):
         sessions = [session for session, _statements in self.steps]

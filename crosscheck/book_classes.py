@@ -18,9 +18,10 @@ from class_request import BOOK_FLAGS, JSON, OUTCOMES, RANKS, Request
 from class_values import BY_OUTCOMES, classes_json
 from classes import ClassPage, OrderClass, number, number_of, with_marks
 from compare_files import answer, fault, joined_at
+from levels import Levels, levels_of
 from machine import FAULTS, outcome_lines
 from schedules import Ending
-from shown import level_lines, lines_with_levels, marks_text, statements_of, visible, word_of
+from shown import marks_text, statements_of, visible, word_of
 from spec_file import read_spec
 
 OF_BOOKS = "WDEN"
@@ -116,8 +117,8 @@ class BookClasses:
 class BookPage(ClassPage):
     """What is asked of the classes of books, and its text."""
 
-    def __init__(self, classes, path, request, lines=()):
-        super().__init__(classes, path, request, lines)
+    def __init__(self, classes, path, request, levels=Levels()):
+        super().__init__(classes, path, request, levels)
         self.by, self.orders_missing = BY_OUTCOMES, classes.orders - self.orders
 
     def letters_with_places(self):
@@ -131,7 +132,7 @@ class BookPage(ClassPage):
             behind = f"; {number(self.orders_missing)} orders are missing, the first of {first}"
         orders = number_of(self.classes.orders, "order", "orders")
         yield f"{visible(self.path)}: {some if behind else ''}{orders} in {number_of(len(self.rows), self.one, self.more)}{behind}"
-        yield from level_lines(self.lines_with_levels)
+        yield from self.levels.head_lines()
         yield NOT_KNOWN
 
     def beneath(self, one):
@@ -174,7 +175,7 @@ class BookAsking:
 
     def text(self, flags):
         classes = self.classes
-        page = BookPage(classes, self.name, Request(flags={*flags}), lines_with_levels(self.joined[0], self.file))
+        page = BookPage(classes, self.name, Request(flags={*flags}), levels_of(self.joined[0], self.file, None))
         return (classes_json(page, statements_of(self.file)) if page.request.has(JSON) else page.text()).encode()
 
     def answer(self, flags):

@@ -254,9 +254,9 @@ def wrong_pages(asking, path, words, random):
     queries = [word for one in read.expectations for word in (QUERY, one["select"])]
     yield from ReadObject(asking.answer(path, [*plain, JSON, *queries])[1].decode()).wrong(value[0])
     for row in random.sample(read.rows, min(len(read.rows), CLASSES_SHOWN)):
-        yield from wrong_beside_order(read, row, json.loads(show_json(Order(asking.text, path, row.first_rank))))
+        yield from wrong_beside_order(read, row, json.loads(show_json(Order(asking.text, path, row.first_rank, asking.level))))
     if HTML in words:
         first, *orders = objects_in(asking.answer(path, [*plain, HTML])[1].decode())
-        if first != value[1].decode() or orders != [show_json(Order(asking.text, path, row.first_rank)) for row in read.rows[:1_000]]:
+        if first != value[1].decode() or orders != [show_json(Order(asking.text, path, row.first_rank, asking.level)) for row in read.rows[:1_000]]:
             yield "the page has another JSON than is printed alone"
 

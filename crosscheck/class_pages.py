@@ -18,6 +18,8 @@ ROW = re.compile(r" {0,9}(\d+)  +([\d,]+)  +(<?[\d.]+%)(?:  +[\d.]+-[\d.]+%)?  (
 HOLDS = re.compile(r"expect .*: (?:holds in|no counterexample in) ([\d,]+) (?:of [\d,]+ )?orders?")
 FAILED = re.compile(r"  FAILED in ([\d,]+) of [\d,]+ orders?")
 LEVELS = re.compile(r"locking: strict two-phase locking; isolation levels? \(lines? ([\d, ]+)\) (has|have) no effect")
+LEVEL = r"READ COMMITTED|SERIALIZABLE"
+ASKED_LEVEL = re.compile(rf"isolation level: ({LEVEL})(?:; (?:{LEVEL}) \(lines? ([\d, ]+)\))?")
 MISSING = re.compile(r"(1) order is missing, rank (\d+)|([2-9]|[\d,]{2,}) orders are missing, the first of rank (\d+)")
 MARKUP = {*"<>&\u2028\u2029"}
 STRING = re.compile(r'"(?:[^"\\]|\\.)*"')
@@ -101,8 +103,8 @@ class ReadObject:
 
     def members(self):
         """Its members before the classes."""
-        more = ["sample"] * self.is_sample + ["missing"] * self.of_books
-        return [name for one in MEMBERS for name in [one, *more * (one == "asked")]]
+        more = {"asked": ["sample"] * self.is_sample + ["missing"] * self.of_books, "steps": ["levels"] * ("levels" in self.value)}
+        return [name for one in MEMBERS for name in [one, *more.get(one, [])]]
 
     # what is wrong with it
 
@@ -129,6 +131,8 @@ class ReadObject:
             yield "another format, or another grouping"
         if self.value["level_lines"] != sorted({*self.value["level_lines"]}):
             yield "lines of levels do not rise"
+        if "levels" in self.value and self.value["level_lines"]:
+            yield "levels are asked for, and have no effect"
 
     def wrong_totals(self):
         for letter, total in self.totals.items():
@@ -265,6 +269,8 @@ class ReadObject:
             "a character behind a backslash": bool(re.search(r"\\[^u]", self.text)),
             "brief": not self.has_classes,
             "lines of levels": bool(self.value["level_lines"]),
+            "a level that is asked for": "levels" in self.value,
+            "other levels beside it": bool(self.value.get("levels", {}).get("other_lines")),
             "no order": self.asked == 0,
             "some orders": 0 < self.asked < self.orders,
             "holds in no order": any(one["holds_in"] == 0 < self.asked for one in self.expectations),
@@ -316,12 +322,17 @@ class ReadText:
         marks = {mark for step in steps for mark in step[len(step.rstrip("-:!")) :]}
         if any(f"{mark} {word}" not in self.lines[-1] for mark, word in MEANINGS.items() if mark in marks):
             yield "a mark is not explained"
-        if sum(bool(LEVELS.fullmatch(line)) for line in self.lines) > 1:
+        if sum(bool(LEVELS.fullmatch(line) or ASKED_LEVEL.fullmatch(line)) for line in self.lines) > 1:
             yield "levels are told twice"
 
     def level_lines(self):
         found = LEVELS.fullmatch(self.lines[1])
         return [int(one) for one in found[1].split(", ")] if found else []
+
+    def levels(self):
+        """The level that is asked for, and the lines with another one, as JSON has them; nothing where none is."""
+        found = ASKED_LEVEL.fullmatch(self.lines[1])
+        return found and {"default": found[1].lower().replace(" ", "-"), "other_lines": [*map(int, found[2].split(", "))] if found[2] else []}
 
     def missing(self):
         """How many orders are missing, and the first of them; nothing where none is."""
@@ -336,6 +347,7 @@ class ReadText:
             "a sample": "sample of" in (self.head[7] or ""),
             "R is not known": "R" in self.totals and self.totals["R"][2] == "-",
             "levels": bool(self.level_lines()),
+            "a level that is asked for": bool(self.levels()),
             "missing orders": bool(self.head[8]),
             "brief": not self.rows and self.classes > 0,
             "no order": self.asked == 0,
@@ -363,8 +375,8 @@ def wrong_beside(text, read, is_brief):
     value = read.value
     if (text.asked, text.orders, text.classes) != (value["asked"], value["orders"], len(value["classes"])):
         yield "the head has other numbers than the JSON"
-    if text.level_lines() != value["level_lines"] or text.missing() != value.get("missing"):
-        yield "the head has other lines of levels, or other missing orders"
+    if (text.level_lines(), text.levels(), text.missing()) != (value["level_lines"], value.get("levels"), value.get("missing")):
+        yield "the head has other levels, other lines of levels, or other missing orders"
     if [letter for letter, one in text.totals.items() if one[2] != "-"] != [letter for letter, total in read.totals.items() if total is not None]:
         yield "the totals have other letters than the JSON"
     for letter, total in read.totals.items():

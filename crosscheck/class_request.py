@@ -4,7 +4,7 @@ import re
 from dataclasses import dataclass, field
 from itertools import takewhile
 
-from machine import DEADLOCK
+from machine import DEADLOCK, LEVELS
 from orders import quoted
 from queries import Expectation, query_of
 from schedules import ALL_ORDERS
@@ -16,6 +16,7 @@ FLAGS = [ALL_ORDERS, BY_RESULT, FINAL_ROWS, OUTCOMES, BRIEF, JSON, HTML] = [
 RANKS = "--ranks"
 BOOK_FLAGS = [RANKS, OUTCOMES, BRIEF, JSON]
 QUERY, EXPECT, PROGRESS, MEMORY, SAMPLE, SEED = "--query", "--expect", "--progress", "--memory", "--sample", "--seed"
+LEVEL = "--level"
 MOST_MEMORY, MOST_SAMPLE, MOST_SEED = 1_000_000, 1_000_000, 2**64 - 1
 # What does not go with a page.
 NOT_OF_PAGES = [BRIEF, JSON]
@@ -77,6 +78,7 @@ class Filter:
 class Request:
     """What is asked of classes. Queries and expectations stand in the order of the words. Of a sample its orders and its seed."""
 
+    level: str | None = None
     sample: int | None = None
     seed: int = 1
     filters: list = field(default_factory=list)
@@ -140,6 +142,12 @@ def number_in(word, least, most):
     return int(word)
 
 
+def level_in(word):
+    if word not in LEVELS:
+        raise NoWords(f"{word} is no level")
+    return word
+
+
 def check_sample(request, words):
     """Takes a sample's orders to those that clients can send, unless all are wanted."""
     if request.sample is None:
@@ -165,6 +173,8 @@ def request_of(words):
             request.queries.append(left.pop(0))
         elif word == EXPECT and left:
             request.expectations.append(take_values(left))
+        elif word == LEVEL and left and request.level is None:
+            request.level = level_in(left.pop(0))
         elif word == MEMORY and left:
             number_in(left.pop(0), 1, MOST_MEMORY)
         elif word == SAMPLE and left and request.sample is None:

@@ -59,7 +59,8 @@ def classes_value(page, statements):
     value |= {
         "sessions": spec.session_names,
         "steps": steps_value(spec, statements),
-        "level_lines": [*page.lines_with_levels],
+        **page.levels.value(),
+        "level_lines": page.levels.lines_without_effect,
         "by": page.by,
         "totals": {letter: page.total(letter) for letter in LETTERS},
         "expectations": [expectation_value(page, one) for one in request.expectations],
@@ -85,10 +86,10 @@ def parts():
         return {path.name: path.read_text() for path in Path(folder).iterdir()}
 
 
-def page_html(text, path, classes, ranks):
-    """The page of a spec's text with the JSON of its classes, and that of the orders of these ranks."""
+def page_html(text, path, classes, ranks, level):
+    """The page of a spec's text with the JSON of its classes, and that of the orders of these ranks, at this level."""
     part = parts()
-    objects = [show_json(Order(text, path, rank)).removesuffix("\n") for rank in ranks[:MOST_SHOWN]]
+    objects = [show_json(Order(text, path, rank, level)).removesuffix("\n") for rank in ranks[:MOST_SHOWN]]
     data = part["between"].join([classes.removesuffix("\n"), *objects])
     return part["front"] + part["style"] + part["middle"] + data + part["back_begin"] + part["script"] + part["back_end"]
 

@@ -12,9 +12,9 @@ from dataclasses import dataclass
 from functools import cached_property
 from pathlib import Path
 
-from binding import bind
 from class_request import ALL_ORDERS, BRIEF, BY_RESULT, FINAL_ROWS, HTML, JSON, OUTCOMES, NotAsked, NoWords, request_of
 from class_values import BY_ANSWERS, BY_SHOWS, classes_json, page_html
+from levels import Levels, bind_at, levels_of
 from machine import LINES, outcome_lines
 from moments import shown
 from orders import spelled
@@ -22,7 +22,7 @@ from queries import NoQuery, query_of, rows_in, seen
 from refusal import Refusal
 from sampling import drawn_ranks, interval_text
 from schedules import Ending, by_layers, by_ranks, in_order, one_by_one, serial_results
-from shown import LEFT_IN, cut, level_lines, lines_with_levels, marks, row_text, statements_of, visible
+from shown import LEFT_IN, cut, marks, row_text, statements_of, visible
 from spec_file import read_spec
 
 WORDS = {
@@ -152,8 +152,8 @@ def table_lines(rows, to_right):
 class ClassPage:
     """What is asked of the classes of a spec, and its text."""
 
-    def __init__(self, classes, path, request, lines_with_levels=()):
-        self.classes, self.path, self.request, self.lines_with_levels = classes, path, request, lines_with_levels
+    def __init__(self, classes, path, request, levels=Levels()):
+        self.classes, self.path, self.request, self.levels = classes, path, request, levels
         self.rows = classes.asked(request)
         self.by_result = request.has(BY_RESULT)
         self.by, self.one, self.more = (BY_ANSWERS, "result", "results") if self.by_result else (BY_SHOWS, "class", "classes")
@@ -182,7 +182,7 @@ class ClassPage:
         orders = number_of(self.classes.orders, "order", "orders")
         remarks = "; ".join(self.remarks())
         yield f"{visible(self.path)}: {some}{orders} in {number_of(len(self.rows), self.one, self.more)}" + (f" ({remarks})" if remarks else "")
-        yield from level_lines(self.lines_with_levels)
+        yield from self.levels.head_lines()
         if self.is_sample and self.orders:
             unseen = share(self.seen_once(), self.orders)
             yield f"Shares have 95% intervals by Wilson. About {unseen} of such orders are in classes not seen (Good and Turing)."
@@ -325,10 +325,10 @@ def marks_of(step):
 
 
 class Asking:
-    """A spec's text, of which several things may be asked."""
+    """A spec's text, of which several things may be asked, at this level where it is one."""
 
-    def __init__(self, text):
-        self.text, self.known = text, {}
+    def __init__(self, text, level=None):
+        self.text, self.level, self.known = text, level, {}
 
     @cached_property
     def file(self):
@@ -336,7 +336,11 @@ class Asking:
 
     @cached_property
     def spec(self):
-        return bind(self.file)
+        return bind_at(self.text, self.file, self.level)
+
+    def at(self, level):
+        """The same text at the level of a request; where that has none, at the one that it has."""
+        return self if level in (None, self.level) else self.known.setdefault(level, Asking(self.text, level))
 
     def classes(self, all_orders, sample=None):
         if (all_orders, sample) not in self.known:
@@ -347,20 +351,22 @@ class Asking:
         """Raises a Refusal where the text has no spec or does not start, NotAsked or NoQuery where the request is not one of this spec."""
         request.check(self.spec)
         sample = None if request.sample is None else (request.sample, request.seed)
-        return ClassPage(self.classes(request.has(ALL_ORDERS), sample), path, request, lines_with_levels(self.text, self.file))
+        return ClassPage(self.classes(request.has(ALL_ORDERS), sample), path, request, levels_of(self.text, self.file, self.spec.level))
 
     def printed(self, page):
         """A page in the form that is asked for."""
         if not page.request.has(JSON) and not page.request.has(HTML):
             return page.text()
         json = classes_json(page, statements_of(self.file))
-        return page_html(self.text, page.path, json, [one.first_rank for one in page.rows]) if page.request.has(HTML) else json
+        ranks = [one.first_rank for one in page.rows]
+        return page_html(self.text, page.path, json, ranks, self.spec.level) if page.request.has(HTML) else json
 
     def answer(self, path, words):
         """The exit status, and what stands on the two outputs."""
         try:
             request = request_of(words)
-            page = self.page(path, request)
+            asking = self.at(request.level)
+            page = asking.page(path, request)
         except NoWords as wrong:
             return 2, b"", f"{wrong.args[0]}\n".encode()
         except Refusal as refusal:
@@ -369,7 +375,7 @@ class Asking:
             return 3, b"", f"isofarm: {path}: {wrong.args[0]}\n".encode()
         except NoQuery as wrong:
             return 3, b"", f"isofarm: {wrong.args[0]}\n".encode()
-        return 0 if page.is_as_expected() else 1, self.printed(page).encode(), b""
+        return 0 if page.is_as_expected() else 1, asking.printed(page).encode(), b""
 
 
 def main(path, *words):

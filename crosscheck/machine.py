@@ -1,4 +1,4 @@
-"""The machine: sessions run their steps over tables under strict two-phase locking.
+"""The machine: sessions run their steps over tables under strict two-phase locking. At READ COMMITTED a plain SELECT asks for no lock.
 
 The rules are followed word by word. Everything is looked up in plain lists and maps, and nothing is kept to be fast.
 """
@@ -34,6 +34,9 @@ LINES = {
     NO_BLOCK: "warning: no transaction block",
 }
 OUTSIDE, IN_BLOCK, FAILED_BLOCK = "outside", "in a block", "in a failed block"
+LEVELS = [READ_COMMITTED, SERIALIZABLE] = ["read-committed", "serializable"]
+# The levels by the first word that a BEGIN has of them.
+NAMED_LEVELS = {"read": READ_COMMITTED, "serializable": SERIALIZABLE}
 
 
 @dataclass
@@ -58,8 +61,9 @@ class Wait:
 
 @dataclass
 class Member:
-    """A session of a world. What is left of its step: the statements, and how many requests of the first are had."""
+    """A session of a world, with its transaction's level. What is left of its step: the statements, and how many requests of the first are had."""
 
+    level: str
     overlay: dict = field(default_factory=dict)
     status: str = OUTSIDE
     rest: list = field(default_factory=list)
@@ -101,6 +105,11 @@ def plan(tables, statement):
     if keys:
         return [((name,), on_table), ((name, keys[0]), on_row)]
     return [((name,), alone)]
+
+
+def is_plain(statement):
+    """Whether it is a SELECT without FOR UPDATE and FOR SHARE."""
+    return isinstance(statement, Select) and statement.locks is None
 
 
 def refuses_to_wait(statement):
@@ -173,7 +182,7 @@ class World:
     def __init__(self, spec):
         self.spec = spec
         self.committed = {}
-        self.members = [Member() for _ in range(len(spec.session_names) + 1)]
+        self.members = [Member(self.default_level) for _ in range(len(spec.session_names) + 1)]
         self.held = {}
         self.waits = []
 
@@ -189,6 +198,22 @@ class World:
 
     def outcome(self):
         return [member.transcript for member in self.members[:-1]]
+
+    # levels
+
+    @property
+    def default_level(self):
+        return self.spec.level or SERIALIZABLE
+
+    def level_of(self, begin):
+        """The level of a transaction that begins so. Where levels are not asked for, what the text says has no effect."""
+        is_named = self.spec.level is not None and begin.level is not None
+        return NAMED_LEVELS[begin.level] if is_named else self.default_level
+
+    def asked(self, member):
+        """The requests of a session's next statement."""
+        statement = member.rest[0]
+        return [] if member.level == READ_COMMITTED and is_plain(statement) else plan(self.spec.tables, statement)
 
     # what a session sees, and what a statement does
 
@@ -341,11 +366,13 @@ class World:
         else:
             self.let_go(session)
             member.transcript.append("rolledback")
-        member.status = OUTSIDE
+        member.status, member.level = OUTSIDE, self.default_level
 
-    def begin(self, member):
+    def begin(self, member, statement):
         if member.status == IN_BLOCK:
             member.transcript.append(IN_BLOCK_ALREADY)
+        else:
+            member.level = self.level_of(statement)
         member.status = IN_BLOCK
         member.transcript.append("began")
 
@@ -358,7 +385,7 @@ class World:
             statement = member.rest[0]
             if member.status == FAILED_BLOCK and not isinstance(statement, End):
                 return self.fail(session, ABORTED)
-            for resource, mode in plan(self.spec.tables, statement)[member.requests :]:
+            for resource, mode in self.asked(member)[member.requests :]:
                 wait = Wait(session, resource, mode)
                 if self.is_had(wait):
                     self.hold(wait)
@@ -372,7 +399,7 @@ class World:
                     return self.fail(session, DEADLOCK)
                 return member.transcript.append("waiting")
             if isinstance(statement, Begin):
-                self.begin(member)
+                self.begin(member, statement)
             elif isinstance(statement, End):
                 self.end_block(session, statement.keeps)
             else:

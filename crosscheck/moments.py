@@ -6,7 +6,7 @@ The machine is that of `machine.py`. Here it is led from moment to moment, and l
 
 from dataclasses import dataclass
 
-from machine import DEADLOCK, FAILED_BLOCK, IN_BLOCK, OUTSIDE, UNAVAILABLE, Wait, World, plan, start
+from machine import DEADLOCK, FAILED_BLOCK, IN_BLOCK, OUTSIDE, UNAVAILABLE, Wait, World, start
 
 SENT, RESUMED, NOT_SENT = "sent", "resumed", "notsent"
 HOLDS, AHEAD = "holds", "ahead"
@@ -178,7 +178,7 @@ class Noting(World):
         """Looks at a request that is refused as if it had waited, behind all others."""
         if event in (DEADLOCK, UNAVAILABLE):
             member = self.members[session]
-            wait = Wait(session, *plan(self.spec.tables, member.rest[0])[member.requests])
+            wait = Wait(session, *self.asked(member)[member.requests])
             self.waits.append(wait)
             if event == DEADLOCK:
                 self.ring = list(hops_of(self, ring_of(self, session)))

@@ -64,7 +64,9 @@ class Record:
         return "  ".join(f"{letter} {orders}" for letter, orders in has.items())
 
     def head_lines(self):
-        yield from ["isofarm record 1", f"spec {visible(self.name)}", f"locking strict two-phase{NO_LEVELS if self.page.lines_with_levels else ''}"]
+        levels = self.page.levels
+        locking = f"level {levels.asked}" if levels.asked else f"locking strict two-phase{NO_LEVELS if levels.other_lines else ''}"
+        yield from ["isofarm record 1", f"spec {visible(self.name)}", locking]
         yield from [f"orders {number(self.orders)}", self.letters]
 
     def paragraphs(self):

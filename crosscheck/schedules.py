@@ -161,7 +161,7 @@ def by_ranks(spec, ranks):
 def member_key(member):
     """What makes a session of a world the one that it is. What is left of its step is the end of the step that it was sent last."""
     overlay = frozenset((place, row and tuple(row)) for place, row in member.overlay.items())
-    return member.status, overlay, len(member.rest), member.requests, tuple(member.transcript)
+    return member.status, member.level, overlay, len(member.rest), member.requests, tuple(member.transcript)
 
 
 class Keys:

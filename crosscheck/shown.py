@@ -1,15 +1,15 @@
 """What `isofarm show` prints of an order: its text, and its JSON.
 
-usage: python3 crosscheck/shown.py SPEC [--json] RANK|STEP..
+usage: python3 crosscheck/shown.py SPEC [--json] [--level LEVEL] RANK|STEP..
 """
 
 import sys
+from argparse import ArgumentParser
 from pathlib import Path
 
 import sql
-from binding import bind
-from checks import blocks
-from machine import FAULTS, printed, written
+from levels import bind_at, levels_of
+from machine import FAULTS, LEVELS, printed, written
 from moments import HOLDS, NOT_SENT, RESUMED, WAITS, shown
 from orders import NoOrder, rank_of, spelled
 from refusal import Refusal
@@ -56,32 +56,12 @@ def statements_of(file):
 class Order:
     """An order of a spec file, with what is shown of it."""
 
-    def __init__(self, text, path, rank):
+    def __init__(self, text, path, rank, level=None):
         file = read_spec(text)
-        self.spec, self.path, self.rank = bind(file), path, rank
+        self.spec, self.path, self.rank = bind_at(text, file, level), path, rank
         self.line = self.spec.line(rank)
-        self.statements, self.lines_with_levels = statements_of(file), lines_with_levels(text, file)
+        self.statements, self.levels = statements_of(file), levels_of(text, file, self.spec.level)
         self.shown = shown(self.spec, self.line)
-
-
-# ---- levels
-
-
-def line_of(text, place):
-    return 1 + text[:place].count(b"\n")
-
-
-def lines_with_levels(text, file):
-    """The lines of a file on which a transaction begins with another level than SERIALIZABLE, each once."""
-    begun = [(block.start + one.at, one) for block, _declares in blocks(file) for one in sql.read_sql(block.text) if isinstance(one, sql.Begin)]
-    return [*dict.fromkeys(line_of(text, place) for place, one in begun if one.level not in (None, "serializable"))]
-
-
-def level_lines(lines):
-    """The line that says that levels have no effect, where there are any."""
-    if lines:
-        levels = f"level (line {lines[0]}) has" if len(lines) == 1 else f"levels (lines {', '.join(map(str, lines))}) have"
-        yield f"locking: strict two-phase locking; isolation {levels} no effect"
 
 
 # ---- texts, widths and cuts
@@ -266,7 +246,7 @@ def marks(moments):
 def head_lines(order, lanes):
     columns = f", {lanes.columns} columns wide" if lanes.columns > WIDTH else ""
     yield from broken(f"{visible(order.path)}: rank {order.rank} of {order.spec.ranks()}{columns}", WIDTH, 0, 0)
-    for line in level_lines(order.lines_with_levels):
+    for line in order.levels.head_lines():
         yield from broken(line, WIDTH, 0, 0)
     names = [visible(spelled(order.spec.step_names[step])) for step in order.line]
     yield from broken(" ".join(map("".join, zip(names, marks(order.shown.moments), strict=True))), WIDTH, 0, 0)
@@ -401,6 +381,7 @@ def show_value(order):
         "name": order.path,
         "rank": order.rank,
         "orders": spec.ranks(),
+        **order.levels.value(),
         "sessions": spec.session_names,
         "steps": steps_value(spec, order.statements),
         "order": order.line,
@@ -425,20 +406,20 @@ def rank_word(words):
     return int(words[0]) if is_number else None
 
 
-def order_of(text, path, words):
+def order_of(text, path, words, level):
     """The order that the words name. Raises a Refusal, or NoOrder with what a fault line tells."""
-    spec, rank = bind(read_spec(text)), rank_word(words)
+    spec, rank = bind_at(text, read_spec(text), level), rank_word(words)
     if rank is None:
         rank = rank_of(spec, words)
     elif rank >= spec.ranks():
         raise NoOrder("rank out of range")
-    return Order(text, path, rank)
+    return Order(text, path, rank, level)
 
 
-def answer(text, path, words, as_json):
+def answer(text, path, words, as_json, level=None):
     """The exit status, and what stands on the two outputs."""
     try:
-        order = order_of(text, path, words)
+        order = order_of(text, path, words, level)
     except Refusal as refusal:
         return 3, b"", refusal.line(path)
     except NoOrder as wrong:
@@ -447,10 +428,13 @@ def answer(text, path, words, as_json):
 
 
 if __name__ == "__main__":
-    given = [word for word in sys.argv[1:] if word != "--json"]
-    if len(given) < 2:
-        sys.exit(__doc__)
-    status, out, error = answer(Path(given[0]).read_bytes(), given[0], given[1:], "--json" in sys.argv)
+    parser = ArgumentParser(usage=__doc__)
+    parser.add_argument("path")
+    parser.add_argument("--json", action="store_true")
+    parser.add_argument("--level", choices=LEVELS)
+    parser.add_argument("order", nargs="+")
+    given = parser.parse_intermixed_args()
+    status, out, error = answer(Path(given.path).read_bytes(), given.path, given.order, given.json, given.level)
     sys.stdout.buffer.write(out)
     sys.stderr.buffer.write(error)
     sys.exit(status)
