@@ -1,13 +1,17 @@
 """Facts worked out by hand, each compared with what is computed. usage: python3 crosscheck/worked.py"""
 
 import sys
+from pathlib import Path
 
 from binding import ShapeKind, bind, shape_fault, words
 from book_file import Kind, NoBook, read_book, text_in_format_1
 from books import answer as book_answer
 from books import book_text, compact, facts_of, leads_to, missing, report
+from class_request import NoWords, request_of
+from classes import Asking, OrderClasses
 from facts import Worlds, answer, are_quiet, fact, fact_line, runs, sent, swap_covers, swapped, swaps, word_of
-from machine import outcome_text, plan
+from levels import bind_at, level_in
+from machine import LEVELS, READ_COMMITTED, SERIALIZABLE, outcome_text, plan
 from refusal import Refusal
 from spec_file import read_spec
 from sql import Kind as SqlKind
@@ -66,6 +70,35 @@ session for step update { SELECT nowait, share FROM for WHERE update > 0 ORDER B
 session nowait step share { LOCK for NOWAIT; LOCK TABLE for IN SHARE MODE NOWAIT; SELECT update FROM for FOR SHARE; }
 """
 TWO_ROWS = ONE_ROW.replace("v + 10 WHERE id = 1", "v + 10 WHERE id = 2")
+TOP = Path(__file__).resolve().parent.parent
+# Of specs: the orders, those in which a session is the victim of a deadlock, and the anomalies. First by strict two-phase locking, then at READ COMMITTED.
+#
+# In the first four a session has two steps, one that reads and one that writes and commits. There are 6 orders where nobody waits. In 2 of them one session
+# is through before the other begins; in the other 4 both read before either writes. By two-phase locking the second to write closes a ring in these 4.
+# With FOR UPDATE the second to read is sent before or behind the first one's last step: 2 orders for whoever is first. In one of these 4 b is first, and its
+# last SELECT stands behind its COMMIT. By two-phase locking that SELECT waits behind a, and sees a's sum.
+#
+# Of the bookings at READ COMMITTED. The kiosk's UPDATE is sent behind the web's COMMIT: its SELECT has 4 places, 3 of them before the COMMIT. Or it is sent
+# between the web's SELECT and COMMIT, and waits: its SELECT has 2 + 3 places. Or it is sent before the web's SELECT, which waits or does not: 1 + 1. In
+# 3 + 5 of these 11 both see that the seat is free. Where both SELECTs lock, the second one is sent behind the first one's first, second or third step.
+LEVEL_FIGURES = {
+    "examples/conversion.spec": ((6, 4, 0), (6, 0, 4)),
+    "examples/lost_update_mended.spec": ((4, 0, 1), (4, 0, 0)),
+    "examples/write_skew.spec": ((6, 4, 0), (6, 0, 4)),
+    "crosscheck/levels/write_skew_mended.spec": ((4, 0, 0), (4, 0, 0)),
+    "crosscheck/levels/double_booking.spec": ((6, 0, 0), (11, 0, 8)),
+    "crosscheck/levels/double_booking_mended.spec": ((6, 0, 0), (6, 0, 0)),
+}
+LEVELLED = ROWS + """
+session a
+step a1 { BEGIN; UPDATE t SET v = 11 WHERE id = 1; } step a2 { COMMIT; }
+session b
+step b1 { BEGIN ISOLATION LEVEL READ UNCOMMITTED; SELECT v FROM t WHERE id = 1; }
+step b2 { BEGIN ISOLATION LEVEL SERIALIZABLE; SELECT v FROM t WHERE id = 2; }
+step b3 { COMMIT; BEGIN; SELECT v FROM t WHERE id = 2; }
+step b4 { COMMIT; SELECT v FROM t WHERE id = 2; START TRANSACTION ISOLATION LEVEL SERIALIZABLE; SELECT v FROM t WHERE id = 2; }
+step b5 { COMMIT; BEGIN; UPDATE t SET v = 21 WHERE id = 2; SELECT * FROM t; }
+"""
 
 
 def empty_steps(counts):
@@ -81,8 +114,8 @@ EMPTY_BOOK = '{"facts":[[0,1,"ran",0]],"format":2,"outcomes":[[[["sent",0],"done
 FALLING_LINE = EMPTY_STEP + " session b step r {} permutation r s permutation r s s"
 
 
-def worlds_of(text):
-    return Worlds(bind(read_spec(text.encode())))
+def worlds_of(text, level=None):
+    return Worlds(bind_at(text.encode(), read_spec(text.encode()), level))
 
 
 def kinds(worlds, ranks, reduces=True):
@@ -423,11 +456,95 @@ def of_lines_of_many_steps():
         yield f"lines of {counts}", place_of_refusal(worlds_of, empty_steps(counts) + "permutation s0_0"), refusal
 
 
+def figures(text, level):
+    """How many orders there are, with a deadlock, and with an anomaly."""
+    classes = OrderClasses(bind_at(text, read_spec(text), level), False)
+    return classes.orders, *(sum(one.letters[letter] for one in classes.all) for letter in "DR")
+
+
+def of_figures_at_levels():
+    for name, (locked, committed) in LEVEL_FIGURES.items():
+        text = (TOP / name).read_bytes()
+        told = [figures(text, level) for level in (None, SERIALIZABLE, READ_COMMITTED)]
+        yield name, told, [locked, locked, committed]
+    booked = Asking((TOP / "crosscheck/levels/double_booking.spec").read_bytes(), READ_COMMITTED).classes(False)
+    results = {one.ending.result for one in booked.all if "R" in one.letters}
+    both = ((("row", (b"none",)), ("rows", 1), ("updated", 1)),) * 2
+    yield "both book the free seat, and the kiosk has it", results, {(both, (("seat", ((12, b"kiosk"),)),))}
+
+
+def of_levels():
+    """b looks at rows at other levels, and at one that a has written."""
+    plain, locked = {}, {("t",): "IS", ("t", 2): "S"}
+    for level, held in ((READ_COMMITTED, [plain, plain, plain, locked]), (SERIALIZABLE, [plain, plain, locked, locked])):
+        worlds = worlds_of(LEVELLED, level)
+        steps = [worlds.spec.step_names.index(name) for name in ("a1", "b1", "b2", "b3", "b4")]
+        told = [worlds.after(steps[: 2 + place]).held for place in range(4)]
+        told = [{resource: mode for (session, resource), mode in held.items() if session == 1} for held in told]
+        yield f"what b holds at {level}", told, held
+    worlds = worlds_of(LEVELLED, READ_COMMITTED)
+    yield "a row that a has written", after(worlds, "a1 b1", 1), "step b1/begun/row 10/rows 1/done"
+    again = "step b2/warning: already in a transaction block/begun/row 20/rows 1/done"
+    yield "it is committed meanwhile", after(worlds, "a1 b1 a2 b2", 1).endswith(again), True
+    own = "step b5/committed/begun/updated 1/row 1|10/row 2|21/rows 2/done"
+    yield "one's own writes over what is committed", after(worlds, "a1 b1 b2 b3 b4 b5", 1).endswith(own), True
+    yield "no level is asked for", after(worlds_of(LEVELLED), "a1 b1", 1), "step b1/begun/waiting"
+
+
+def words_with_level(*words):
+    try:
+        return request_of(words).level
+    except NoWords as wrong:
+        return wrong.args[0]
+
+
+def of_what_asks_for_levels():
+    line = f"# level: {READ_COMMITTED}\n"
+    read = {
+        EMPTY_STEP: None,
+        line + EMPTY_STEP: READ_COMMITTED,
+        f"{EMPTY_STEP}\n \t#\tlevel:serializable \r\n": SERIALIZABLE,
+        f"session a # one\n{line}step s {{}}": READ_COMMITTED,
+        f"session a {line}step s {{}}": None,
+        f"session a step s {{ -- no\n{line}}}": None,
+        f"# no level: {READ_COMMITTED}\n{EMPTY_STEP}": None,
+    }
+    for text, level in read.items():
+        yield text, level_in(text.encode()), level
+    begun = "session a\nstep s { BEGIN ISOLATION LEVEL REPEATABLE READ; }"
+    refused = {
+        f"# level:\n{EMPTY_STEP}": ("level", 1, 1),
+        f"\n# level: read committed\n{EMPTY_STEP}": ("level", 1, 2),
+        line + EMPTY_STEP + "\n" + line: ("level", 2, 3),
+        line + begun: ("level", 3, 3),
+        begun: None,
+    }
+    for text, refusal in refused.items():
+        yield text, place_of_refusal(worlds_of, text), refusal
+    told = Asking((line + begun).encode()).answer("x", [])
+    yield "its line", told, (3, b"", b"isofarm: x: REPEATABLE READ is not modelled (line 3)\n")
+    words = [words_with_level(*words) for words in ([], *(["--level", level] for level in LEVELS), ["--level", "snapshot"], ["--level"] + LEVELS)]
+    yield "words", words, [None, *LEVELS, "snapshot is no level", "serializable is no option"]
+    heads = [Asking(text.encode()).answer("x", words)[1].decode().split("\n")[1] for text, words in (
+        (line + EMPTY_STEP, []),
+        (line + LEVELLED, []),
+        (line + LEVELLED, ["--level", SERIALIZABLE]),
+        (LEVELLED, []),
+    )]
+    yield "heads", heads, [
+        "isolation level: READ COMMITTED",
+        "isolation level: READ COMMITTED; SERIALIZABLE (lines 8, 10)",
+        "isolation level: SERIALIZABLE; READ COMMITTED (line 7)",
+        "locking: strict two-phase locking; isolation level (line 6) has no effect",
+    ]
+
+
 def main():
     examples = [of_insert_and_read, of_one_line, of_one_row, of_readers_and_a_writer, of_two_tables]
     examples += [of_two_rows, of_waits_aside, of_an_empty_step, of_a_falling_line]
     examples += [of_locked_rows, of_refused_locks, of_rings_of_locked_rows, of_refused_setups, of_plans, of_words_that_lock]
     examples += [of_shapes, of_lines_of_many_steps]
+    examples += [of_figures_at_levels, of_levels, of_what_asks_for_levels]
     examples += [of_books, of_books_of_two_ranks, of_false_books, of_book_files, of_runs_in_files]
     compared = differences = 0
     for example in examples:
