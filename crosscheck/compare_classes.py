@@ -6,9 +6,9 @@ Of each spec are asked for: all classes and results, brief or not, of the orders
 as a page that a browser opens, and then some mix of filters, flags, queries and expectations (`class_asking.py`). What the command line refuses has
 to have the same status, and all else the same bytes. Of a spec with many orders some are made permutation lines. Before them come the pages of
 `classes/`, which were worked out by hand. With `--alone` no program is run: orders are counted by layers of states and one by one, and classes, texts
-and JSON are held against what has to hold of each (`class_laws.py`, `class_pages.py`). KIND is one of those below, or `all`: `crowd` has five to seven
-sessions with so few steps that all orders are run, `leaving` has sessions that leave other rows in each order, and the others are those of
-`compare_shown.py`. The last lines count what was told.
+and JSON are held against what has to hold of each (`class_laws.py`, `class_pages.py`), as they are and at READ COMMITTED. KIND is one of those below, or
+`all`: `crowd` has five to seven sessions with so few steps that all orders are run, `leaving` has sessions that leave other rows in each order, and the
+others are those of `compare_shown.py`. The last lines count what was told.
 """
 
 import re
@@ -29,6 +29,7 @@ from classes import Asking, share, table_lines
 from compare import Comparison, ended, fault_of, told
 from compare_shown import ALL, ALL_KINDS, ALONE, FILES, bound, specs_of
 from generate import Maker
+from machine import READ_COMMITTED
 from orders import order_text
 from refusal import Refusal
 
@@ -399,13 +400,13 @@ def alone(kinds, first, seeds):
     found = len(by_hand)
     for kind in kinds:
         for name, seed, text in texts_of(kind, first, seeds):
-            asking = Asking(text)
-            wrong = [*wrong_told(asking, seed, counts)]
-            if is_classed(asking):
-                counts["specs"] += 1
-                wrong += wrong_alone(asking, seed, counts)
-            found += len(wrong)
-            print("".join(f"{kind}, {name}: {one}\n" for one in wrong), end="", flush=True)
+            for asking in (Asking(text), Asking(text, READ_COMMITTED)):
+                wrong = [*wrong_told(asking, seed, counts)]
+                if is_classed(asking):
+                    counts["specs"] += 1
+                    wrong += wrong_alone(asking, seed, counts)
+                found += len(wrong)
+                print("".join(f"{kind}, {name}, {asking.level}: {one}\n" for one in wrong), end="", flush=True)
     print(f"{counts['specs']} specs, {found} faults of the laws; in what was told:")
     for word, count in counts.most_common():
         print(f"  {count:6} {word}")

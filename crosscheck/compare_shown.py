@@ -4,15 +4,16 @@ usage: python3 crosscheck/compare_shown.py PROGRAM|--alone KIND FIRST_SEED SEEDS
 
 Some orders of each spec are shown, by their ranks and by the names of their steps, as text and as JSON; some have no rank. Before them come
 the specs of `shown/`, whose texts and JSON were worked out by hand. With `--alone` no program is run: the moments, texts and JSON of these
-orders are held against what has to hold of each (`moment_laws.py`). KIND is one of those below, or `all`: `named` has names and texts that are
-long, alike or steer a terminal, `many` has five to eight sessions, and each of the other kinds is that of `generate.py`. The last lines count
-what was told.
+orders are held against what has to hold of each (`moment_laws.py`), as they are and at READ COMMITTED. KIND is one of those below, or `all`:
+`named` has names and texts that are long, alike or steer a terminal, `many` has five to eight sessions, and each of the other kinds is that of
+`generate.py`. The last lines count what was told.
 """
 
 import json
 import re
 import sys
 from collections import Counter
+from itertools import product
 from pathlib import Path
 from random import Random
 from tempfile import TemporaryDirectory
@@ -21,6 +22,7 @@ from unicodedata import category
 from binding import bind
 from compare import WORDS, Comparison, ended, texts_of
 from generate import KINDS, Maker
+from machine import READ_COMMITTED
 from moment_laws import wrong_in
 from orders import orders
 from refusal import Refusal
@@ -255,17 +257,17 @@ def compare_with(program, kinds, first, seeds):
     return comparison.end()
 
 
-def wrong_alone(text, path, words, counts):
+def wrong_alone(text, path, words, level, counts):
     """What is wrong with an order, by the laws; where it has none, with what is told of that."""
-    status, out, error = answer(text, path, words, False)
+    status, out, error = answer(text, path, words, False, level)
     if status:
         counts.update(["refused"])
-        if (status, out) != (3, b"") or answer(text, path, words, True) != (status, out, error):
+        if (status, out) != (3, b"") or answer(text, path, words, True, level) != (status, out, error):
             yield "a refusal has an answer, or is another one for JSON"
         return
-    line = answer(text, path, words, True)[1]
+    line = answer(text, path, words, True, level)[1]
     counts.update(["orders", *kind_of(out), *kind_of(line)])
-    yield from wrong_in(Order(text, path, json.loads(line)["rank"]), out.decode(), line.decode())
+    yield from wrong_in(Order(text, path, json.loads(line)["rank"], level), out.decode(), line.decode())
 
 
 def alone(kinds, first, seeds):
@@ -276,10 +278,11 @@ def alone(kinds, first, seeds):
         for name, seed, text in specs_of(kind, first, seeds):
             random, spec = Random(seed), bound(text)
             path = Random(seed).choice(FILES)
-            for words in words_of(spec, random) if spec else [["0"]]:
-                for wrong in wrong_alone(text, path, words, counts):
+            asked = [*words_of(spec, random)] if spec else [["0"]]
+            for words, level in product(asked, (None, READ_COMMITTED)):
+                for wrong in wrong_alone(text, path, words, level, counts):
                     found += 1
-                    print(f"{kind}, {name}, {' '.join(words)}: {wrong}")
+                    print(f"{kind}, {name}, {' '.join(words)}, {level}: {wrong}")
     print(f"{counts['orders']} orders, {found} faults of the laws; in what was told:")
     for word, count in counts.most_common():
         print(f"  {count:6} {word}")

@@ -368,7 +368,8 @@ class World:
             member.transcript.append("rolledback")
         member.status, member.level = OUTSIDE, self.default_level
 
-    def begin(self, member, statement):
+    def begin(self, session, statement):
+        member = self.members[session]
         if member.status == IN_BLOCK:
             member.transcript.append(IN_BLOCK_ALREADY)
         else:
@@ -399,7 +400,7 @@ class World:
                     return self.fail(session, DEADLOCK)
                 return member.transcript.append("waiting")
             if isinstance(statement, Begin):
-                self.begin(member, statement)
+                self.begin(session, statement)
             elif isinstance(statement, End):
                 self.end_block(session, statement.keeps)
             else:
@@ -444,8 +445,8 @@ class World:
         return not any(event in FAULTS for event in events)
 
 
-def start(spec):
-    world = World(spec)
+def start(spec, kind=World):
+    world = kind(spec)
     control = len(spec.session_names)
     for number, statements in enumerate(spec.setups):
         if not world.set_up(control, statements) or world.members[control].status != OUTSIDE:
