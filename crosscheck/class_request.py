@@ -142,7 +142,7 @@ def number_in(word, least, most):
     return int(word)
 
 
-def level_in(word):
+def level_word(word):
     if word not in LEVELS:
         raise NoWords(f"{word} is no level")
     return word
@@ -174,7 +174,7 @@ def request_of(words):
         elif word == EXPECT and left:
             request.expectations.append(take_values(left))
         elif word == LEVEL and left and request.level is None:
-            request.level = level_in(left.pop(0))
+            request.level = level_word(left.pop(0))
         elif word == MEMORY and left:
             number_in(left.pop(0), 1, MOST_MEMORY)
         elif word == SAMPLE and left and request.sample is None:

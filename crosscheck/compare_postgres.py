@@ -193,6 +193,10 @@ class NoServer(Exception):
     """Why none is there."""
 
 
+class NoAnswer(Exception):
+    """Why PostgreSQL runs no order of a spec."""
+
+
 @contextmanager
 def server():
     """A server of its own, as the words that connect to it. Raises NoServer."""
@@ -316,7 +320,7 @@ def run_orders(connection, file, spec, orders):
         out = subprocess.run([TESTER, connection], input=text, capture_output=True, text=True, env=environment, timeout=MOST_SECONDS, check=False)
         told = out.stdout.split("\nstarting permutation: ")[1:]
         if not told or not parts_in(told[-1]):
-            raise ValueError(out.stderr)
+            raise NoAnswer(out.stderr)
         found += [read_order(spec, one.partition("\n")[2]) for one in told]
     return found
 
@@ -410,6 +414,9 @@ def main(*words):
                 except Refusal as refusal:
                     counts["specs that are refused"] += 1
                     print(refusal.line(name).decode(), end="", flush=True)
+                except NoAnswer as wrong:
+                    counts["specs that PostgreSQL refuses"] += 1
+                    print(f"{name}: {wrong}", flush=True)
     except NoServer as wrong:
         print(f"no server: {wrong}")
         return NO_SERVER

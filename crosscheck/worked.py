@@ -3,7 +3,7 @@
 import sys
 from pathlib import Path
 
-from binding import ShapeKind, bind, shape_fault, words
+from binding import ShapeKind, shape_fault, words
 from book_file import Kind, NoBook, read_book, text_in_format_1
 from books import answer as book_answer
 from books import book_text, compact, facts_of, leads_to, missing, report
@@ -12,6 +12,7 @@ from classes import Asking, OrderClasses
 from facts import Worlds, answer, are_quiet, fact, fact_line, runs, sent, swap_covers, swapped, swaps, word_of
 from levels import bind_at, level_in
 from machine import LEVELS, READ_COMMITTED, SERIALIZABLE, outcome_text, plan
+from records import Record
 from refusal import Refusal
 from spec_file import read_spec
 from sql import Kind as SqlKind
@@ -97,7 +98,7 @@ step b1 { BEGIN ISOLATION LEVEL READ UNCOMMITTED; SELECT v FROM t WHERE id = 1; 
 step b2 { BEGIN ISOLATION LEVEL SERIALIZABLE; SELECT v FROM t WHERE id = 2; }
 step b3 { COMMIT; BEGIN; SELECT v FROM t WHERE id = 2; }
 step b4 { COMMIT; SELECT v FROM t WHERE id = 2; START TRANSACTION ISOLATION LEVEL SERIALIZABLE; SELECT v FROM t WHERE id = 2; }
-step b5 { COMMIT; BEGIN; UPDATE t SET v = 21 WHERE id = 2; SELECT * FROM t; }
+step b5 { COMMIT; BEGIN; SET transaction_isolation = serializable; UPDATE t SET v = 21 WHERE id = 2; SELECT * FROM t; }
 """
 
 
@@ -486,7 +487,7 @@ def of_levels():
     yield "a row that a has written", after(worlds, "a1 b1", 1), "step b1/begun/row 10/rows 1/done"
     again = "step b2/warning: already in a transaction block/begun/row 20/rows 1/done"
     yield "it is committed meanwhile", after(worlds, "a1 b1 a2 b2", 1).endswith(again), True
-    own = "step b5/committed/begun/updated 1/row 1|10/row 2|21/rows 2/done"
+    own = "step b5/committed/begun/set/updated 1/row 1|10/row 2|21/rows 2/done"
     yield "one's own writes over what is committed", after(worlds, "a1 b1 b2 b3 b4 b5", 1).endswith(own), True
     yield "no level is asked for", after(worlds_of(LEVELLED), "a1 b1", 1), "step b1/begun/waiting"
 
@@ -521,6 +522,8 @@ def of_what_asks_for_levels():
     }
     for text, refusal in refused.items():
         yield text, place_of_refusal(worlds_of, text), refusal
+    yield "SET TRANSACTION", place_of_refusal(read_sql, b"SET TRANSACTION ISOLATION LEVEL SERIALIZABLE"), ("sql", SqlKind.SYNTAX, 16)
+    yield "a record", Record("x", (line + EMPTY_STEP).encode()).text().split("\n")[2], "level read-committed"
     told = Asking((line + begun).encode()).answer("x", [])
     yield "its line", told, (3, b"", b"isofarm: x: REPEATABLE READ is not modelled (line 3)\n")
     words = [words_with_level(*words) for words in ([], *(["--level", level] for level in LEVELS), ["--level", "snapshot"], ["--level"] + LEVELS)]
