@@ -99,11 +99,16 @@ class Order:
 
 
 def text_of(value):
-    return value.decode().strip() if isinstance(value, bytes) else str(value)
+    return value.decode() if isinstance(value, bytes) else str(value)
+
+
+def row_text(cells):
+    """A row as it can be told from what is printed: blanks fill columns there, and a stroke in a text is as one between columns."""
+    return "|".join(part.strip() for part in "|".join(cells).split("|"))
 
 
 def rows_of(rows):
-    return tuple(sorted(tuple(map(text_of, row)) for row in rows))
+    return tuple(sorted(row_text(map(text_of, row)) for row in rows))
 
 
 def ended_with(events):
@@ -243,8 +248,9 @@ def create_sql(name, table):
 
 def tester_spec(file, spec, orders):
     """The text that isolationtester reads: steps by their numbers, a look at all tables behind each order, and the end of each session."""
-    yield f"setup {{ {' '.join(create_sql(*one) for one in spec.tables.items())} {' '.join(map(statements_sql, file.setups))} }}"
-    yield f"teardown {{ DROP TABLE {', '.join(spec.tables)}; }}"
+    if spec.tables:
+        yield f"setup {{ {' '.join(create_sql(*one) for one in spec.tables.items())} {' '.join(map(statements_sql, file.setups))} }}"
+        yield f"teardown {{ DROP TABLE {', '.join(spec.tables)}; }}"
     steps = steps_by_session(spec)
     for number, session in enumerate(file.sessions):
         yield f"session s{number}" + (f" setup {{ {setup} }}" if (setup := statements_sql(session.setup)) else "")
@@ -266,7 +272,7 @@ def tables_in(lines):
             yield rows
             rows = None
         elif rows is not None:
-            rows.append([value.strip() for value in line.split("|")])
+            rows.append(line.split("|"))
 
 
 def results_of(statements, tables):
@@ -275,7 +281,7 @@ def results_of(statements, tables):
         if type(statement) in COUNTS:
             yield COUNTS[type(statement)], len(rows)
         else:
-            yield "rows", rows_of([value or "0" for value in row] if statement.aggregates else row for row in rows)
+            yield "rows", rows_of([value.strip() or "0" for value in row] if statement.aggregates else row for row in rows)
 
 
 def error_in(lines):
@@ -351,15 +357,11 @@ def difference(order, told):
     return None if left in (None, order.left) else ("rows left", len(order.steps), order.left, left)
 
 
-def rows_text(rows):
-    return ", ".join("|".join(row) for row in rows) or "no row"
-
-
 def told_text(what):
     if what == WAITS:
         return WAITS
     results, error = what
-    told = [f"{word} {rows_text(value) if word == 'rows' else value}" for word, value in results]
+    told = [f"{word} {', '.join(value) if word == 'rows' else value}" for word, value in results]
     return ", ".join(told + [LINES.get(error, error)] * bool(error)) or "done"
 
 
@@ -370,7 +372,7 @@ def difference_lines(name, spec, statements, several):
     yield f"{name}: {kind}, in {number_of(len(several), 'order', 'orders')}, the first: {steps}"
     yield f"  {spec.step_names[order.steps[length - 1]]}: {statements[order.steps[length - 1]]}"
     for where, told in zip(("here", "PostgreSQL"), both, strict=True):
-        of_each = (f"{one} {rows_text(what)}" if one in spec.tables else f"{spec.session_names[one]} {told_text(what)}" for one, what in told.items())
+        of_each = (f"{one} {', '.join(what)}" if one in spec.tables else f"{spec.session_names[one]} {told_text(what)}" for one, what in told.items())
         yield f"  {where}: {'; '.join(of_each)}"
 
 
