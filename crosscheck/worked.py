@@ -468,8 +468,11 @@ def of_figures_at_levels():
         text = (TOP / name).read_bytes()
         told = [figures(text, level) for level in (None, SERIALIZABLE, READ_COMMITTED)]
         yield name, told, [locked, locked, committed]
-    booked = Asking((TOP / "crosscheck/levels/double_booking.spec").read_bytes(), READ_COMMITTED).classes(False)
-    results = {one.ending.result for one in booked.all if "R" in one.letters}
+    path = TOP / "crosscheck/levels/double_booking.spec"
+    asking = Asking(path.read_bytes())
+    told = asking.answer(path.name, ["--level", READ_COMMITTED])
+    yield "the page of the bookings", told, (0, path.with_suffix(".txt").read_bytes(), b"")
+    results = {one.ending.result for one in asking.at(READ_COMMITTED).classes(False).all if "R" in one.letters}
     both = ((("row", (b"none",)), ("rows", 1), ("updated", 1)),) * 2
     yield "both book the free seat, and the kiosk has it", results, {(both, (("seat", ((12, b"kiosk"),)),))}
 
