@@ -9,10 +9,11 @@ use std::alloc::{AllocError, Global};
 use std::collections::BTreeMap;
 use std::marker::Model;
 
-/// About so many bytes are taken by one that is shown beside its rows, and by each of its rows: it is held here twice, by its class, and by the row of that.
+/// About so many bytes are taken by one that is shown beside its rows, and at most so many by each of its rows: it is held here twice, and three times more where
+/// classes are told, each time with room for up to twice its rows.
 const SHOWS_BYTES: usize = 2_048;
 
-const ROW_BYTES: usize = 128;
+const ROW_BYTES: usize = 320;
 
 /// What is shown, each once, in the order of numbers, seen by contracts as that list.
 pub struct Different {
