@@ -5,21 +5,24 @@ ghost use Rattle.lock_queues.specs.Reasons.{Among};
 ghost use Rattle.different_shows.specs.Different.{AreDifferent, HasNumber};
 
 use order_classes::Shows;
+use row_tables::row_bytes;
 use std::alloc::{AllocError, Global};
 use std::collections::BTreeMap;
 use std::marker::Model;
 
-/// About so many bytes are taken by one that is shown beside its rows, and at most so many by each of its rows: it is held here twice, and three times more where
-/// classes are told, each time with room for up to twice its rows.
+/// About so many bytes are taken by one that is shown beside its rows: it is held here twice, and three times more where classes are told.
 const SHOWS_BYTES: usize = 2_048;
 
-const ROW_BYTES: usize = 320;
+/// And so many by each of its rows beside the row itself, in a list that has room for up to twice its rows. Who leaves the same rows as another shares them.
+const PLACE_BYTES: usize = 64;
 
 /// What is shown, each once, in the order of numbers, seen by contracts as that list.
 pub struct Different {
     alloc: Global,
     shows: Vec<Shows>,
     numbers: BTreeMap<Shows, u32>,
+    /// For a number made of the rows that are left, that of the first one that leaves such rows.
+    leaving: BTreeMap<u64, u32>,
     bytes: usize,
 }
 
@@ -30,6 +33,7 @@ impl Drop for Different {
             alloc: _,
             shows: _shows,
             numbers: _numbers,
+            leaving: _leaving,
             bytes: _,
         } = self;
     }
@@ -55,6 +59,7 @@ impl Different {
             alloc,
             shows: Vec::new(alloc),
             numbers: BTreeMap::new(alloc),
+            leaving: BTreeMap::new(alloc),
             bytes: 0,
         }
     }
@@ -106,21 +111,46 @@ impl Different {
         let Ok(number) = u32::try_from(self.shows.len()) else {
             return Err(AllocError);
         };
-        let copy = shows.copied(self.alloc)?;
-        let key = shows.copied(self.alloc)?;
+        let copy = self.shared(number, shows)?;
+        let key = copy.copied(self.alloc)?;
         self.shows.reserve(1)?;
         self.numbers.insert(key, number)?;
         self.shows.push_reserved(copy);
-        self.bytes = self.bytes.saturating_add(bytes_of(shows));
         Ok(number)
+    }
+
+    /// A copy of what will have this number. It shares its rows with one that is there, if one leaves the same; else they are counted.
+    fn shared(&mut self, number: u32, shows: &Shows) -> Result<Shows, AllocError>
+        ensures copy { IfOk result (λ copy. copy ≡ shows.now) }
+        ensures same { self.new ≡ self.old }
+    {
+        self.bytes = self.bytes.saturating_add(SHOWS_BYTES);
+        let print = shows.left_print();
+        if let Some(other) = self.leaves(print) {
+            if shows.leaves_as(other) {
+                return shows.sharing(self.alloc, other);
+            }
+        }
+        self.bytes = self.bytes.saturating_add(left_bytes(shows));
+        self.leaving.insert(print, number)?;
+        shows.copied(self.alloc)
+    }
+
+    /// One that may leave the rows of which a number is made.
+    fn leaves(&self, print: u64) -> Option<&Shows> {
+        let number = self.leaving.get(&print)?;
+        self.shows.get(*number as usize)
     }
 }
 
-fn bytes_of(shows: &Shows) -> usize {
-    let mut bytes = SHOWS_BYTES;
+/// About how many bytes the rows take that are left.
+fn left_bytes(shows: &Shows) -> usize {
+    let mut bytes: usize = 0;
     for table in shows.left.as_slice() {
-        let rows = table.as_slice();
-        bytes = bytes.saturating_add(rows.len().saturating_mul(ROW_BYTES));
+        for entry in table.as_slice() {
+            let row = row_bytes(&entry.1).saturating_add(PLACE_BYTES);
+            bytes = bytes.saturating_add(row);
+        }
     }
     bytes
 }

@@ -1,15 +1,18 @@
 //! The rows of a table with their keys.
 
-ghost use Rattle.std.specs.Prelude.{◌≡◌, ◌++◌, ◌∷◌, [], OnOk, OnErr};
+ghost use Rattle.std.specs.Prelude.{◌≡◌, IfOk};
 
 use finite_maps::Fork;
 use lock_modes::{Row, Value};
-use std::alloc::{AllocError, Global};
+use row_tables::print_row;
+use std::alloc::AllocError;
+use std::hash::FoldHasher;
 use std::marker::Model;
+use std::sync::Arc;
 
-/// Rows of a table with their keys, seen by contracts as the list of these pairs.
+/// Rows of a table with their keys, seen by contracts as the list of these pairs. A fork shares the list and copies nothing.
 pub struct TableRows {
-    rows: Vec<(Value, Row)>,
+    rows: Arc<Vec<(Value, Row)>>,
 }
 
 // Written out and not derived, so that who owns one calls this and does not let its parts go one by one.
@@ -30,16 +33,18 @@ impl Model for TableRows {
 
     ghost coded = { Prim.hlevel (codes, value.the_row.coded) };
 
-    ghost view = { λ t. t.rows.items };
+    ghost view = { λ t. t.rows.value.items };
 }
 
 impl TableRows {
-    pub fn new(alloc: Global) -> TableRows
-        ensures { result ≡ [] }
+    /// These rows with their keys. It fails for want of memory alone.
+    pub fn from_rows(rows: Vec<(Value, Row)>) -> Result<TableRows, AllocError>
+        ensures { IfOk result (λ table. table ≡ rows.items) }
     {
-        TableRows {
-            rows: Vec::new(alloc),
-        }
+        let alloc = *rows.allocator();
+        Ok(TableRows {
+            rows: Arc::new(alloc, rows)?,
+        })
     }
 
     pub fn as_slice(&self) -> &[(Value, Row)]
@@ -48,24 +53,18 @@ impl TableRows {
         self.rows.as_slice()
     }
 
-    /// Puts a row with its key behind the others. Both are shared.
-    pub fn push(&mut self, key: &Value, row: &Row) -> Result<(), AllocError>
-        ensures ok { OnOk result (self.new ≡ self.old ++ (key.now, row.now) ∷ []) }
-        ensures err { OnErr result (self.new ≡ self.old) }
-    {
-        let key = key.fork()?;
-        let row = row.fork()?;
-        self.rows.push((key, row))?;
-        Ok(())
+    /// Writes the values of the rows to a hasher, so that the same rows make the same number, and others seldom do.
+    pub fn print(&self, hasher: &mut FoldHasher) {
+        for entry in self.rows.as_slice() {
+            print_row(hasher, &entry.1);
+        }
     }
 }
 
 impl Fork for TableRows {
     fn fork(&self) -> Result<TableRows, AllocError> {
-        let mut copy = TableRows::new(*self.rows.allocator());
-        for entry in self.as_slice() {
-            copy.push(&entry.0, &entry.1)?;
-        }
-        Ok(copy)
+        Ok(TableRows {
+            rows: self.rows.clone()?,
+        })
     }
 }

@@ -15,6 +15,13 @@ pub struct LocksPicture {
     pub(crate) waits: Vec<NumberedWait>,
 }
 
+impl LocksPicture {
+    /// On how many resources somebody held something.
+    pub fn held(&self) -> usize {
+        self.modes.held()
+    }
+}
+
 impl MarkedLocks {
     /// A picture of the lock table now. It fails for want of memory alone.
     pub fn picture(&self, alloc: Global) -> Result<LocksPicture, AllocError>

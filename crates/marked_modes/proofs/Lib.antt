@@ -1,2 +1,3 @@
 mod HeldLemmas
 mod ChangeLemmas
+mod PictureLemmas

@@ -1,12 +1,14 @@
 -- Who holds which mode, by a row of modes for each resource.
-use Rattle.std.specs.Prelude.{◌≡◌, ◌⊎◌, ℕ, zero, suc, cond, List, [], ◌∷◌, ◌++◌, length, map, get_or, Option, None}
+use Rattle.std.specs.Prelude.{◌≡◌, ◌⊎◌, ℕ, zero, suc, cond, List, [], ◌∷◌, ◌++◌, length, map, get_or, replicate, Option, None}
 use Rattle.finite_maps.specs.Map.{Map, get}
 use Rattle.lock_modes.specs.Resource.{same_resource}
 use Rattle.lock_modes.specs.declared.mode.Mode.{Mode}
 use Rattle.lock_modes.specs.declared.resource.Resource.{Resource}
 use Rattle.lock_queues.specs.LockTable.{Holding, holding_order}
 use Rattle.lock_queues.specs.Tabulate.{tabulate}
+use Rattle.marked_modes.specs.declared.picture.HeldRow.{HeldRow}
 use Rattle.marked_modes.specs.declared.picture.ModesPicture.{ModesPicture}
+use Rattle.marked_modes.specs.declared.row.TheConstants.{MAX_HOLDERS}
 use Rattle.marked_modes.specs.declared.row.ModeRow.{ModeRow}
 
 -- the resources, and who holds which mode now, and at the marks that stand, the newest first
@@ -45,6 +47,17 @@ holdings (r ∷ rs) (row ∷ rows) = map (λ s. (s, r)) (below (length row.modes
 abbrev pub held_map : List Resource → List ModeRow → Map holding_order Mode
 held_map rs rows = tabulate holding_order (held_in rs rows) (holdings rs rows)
 
+-- ---- pictures
+
+-- a row in which nobody holds anything
+abbrev pub blank_row : ModeRow
+blank_row = record { modes = replicate MAX_HOLDERS None }
+
+-- these rows, each behind so many blank ones, and so many blank ones behind all of them
+abbrev pub spread : List HeldRow → ℕ → List ModeRow
+spread [] behind = replicate behind blank_row
+spread (h ∷ hs) behind = replicate h.before blank_row ++ h.row ∷ spread hs behind
+
 -- what a picture shows, by the resources
 abbrev pub pictured : List Resource → ModesPicture → Map holding_order Mode
-pictured rs p = held_map rs p.rows.items
+pictured rs p = held_map rs (spread p.held.items p.behind)

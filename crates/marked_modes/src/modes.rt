@@ -55,9 +55,7 @@ impl MarkedModes {
     {
         let mut rows = MarkedList::new(alloc);
         for _resource in 0..numbers.count() {
-            rows.push(ModeRow {
-                modes: [None; MAX_HOLDERS],
-            })?;
+            rows.push(ModeRow::blank())?;
         }
         Ok(MarkedModes {
             numbers,

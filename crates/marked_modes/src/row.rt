@@ -2,7 +2,7 @@
 
 ghost use Rattle.std.specs.Prelude.{◌≡◌, ◌≢◌, ◌<◌, ◌↔◌, ℕ, IsTrue, length, true};
 ghost use Rattle.lock_queues.specs.Locks.{fits_with as fits};
-ghost use Rattle.marked_modes.specs.Held.{mode_in};
+ghost use Rattle.marked_modes.specs.Held.{blank_row, mode_in};
 ghost use Rattle.marked_modes.specs.Kept.{with_mode};
 
 use lock_modes::{Mode, compatible};
@@ -43,8 +43,24 @@ impl ModeRow {
         ModeRow { modes }
     }
 
+    /// Nobody holds anything.
+    pub(crate) fn blank() -> ModeRow
+        ensures { result ≡ blank_row }
+    {
+        ModeRow {
+            modes: [None; MAX_HOLDERS],
+        }
+    }
+
+    /// Whether nobody holds anything.
+    pub(crate) fn is_blank(&self) -> bool
+        ensures { result ≡ true → self.now ≡ blank_row }
+    {
+        self.is_same(&ModeRow::blank())
+    }
+
     /// Whether all sessions hold the same in both.
-    fn is_same(&self, other: &ModeRow) -> bool
+    pub(crate) fn is_same(&self, other: &ModeRow) -> bool
         ensures { result ≡ true → self.now ≡ other.now }
     {
         for session in 0..MAX_HOLDERS {
@@ -67,21 +83,6 @@ impl ModeRow {
         }
         true
     }
-}
-
-/// Whether these are the same rows.
-pub(crate) fn are_same(rows: &[ModeRow], others: &[ModeRow]) -> bool
-    ensures { result ≡ true → rows.now ≡ others.now }
-{
-    if rows.len() != others.len() {
-        return false;
-    }
-    for place in 0..rows.len() {
-        if !rows[place].is_same(&others[place]) {
-            return false;
-        }
-    }
-    true
 }
 
 /// Whether these are the same mode, or none both.

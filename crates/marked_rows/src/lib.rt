@@ -7,6 +7,7 @@ mod ending;
 mod picture;
 mod places;
 mod pool;
+mod print;
 mod rows;
 mod scan;
 

@@ -14,12 +14,14 @@ use finite_maps::Fork;
 use lock_modes::{Row, Value};
 use std::alloc::{AllocError, Global};
 use std::marker::Model;
+use std::sync::Arc;
 
-/// The rows of all tables and what sessions had left there, as they were when it was taken. Contracts see the layers.
+/// The rows of all tables and what sessions had left there, as they were when it was taken. Contracts see the layers. A fork shares them and copies
+/// nothing.
 #[derive(Drop)]
 pub struct RowsPicture {
     /// What lay at each place where something was ever written, by table and key.
-    cells: Vec<PicturedCell>,
+    cells: Arc<Vec<PicturedCell>>,
 }
 
 /// What lay at a place.
@@ -49,7 +51,7 @@ impl Model for RowsPicture {
 
     ghost coded = { Prim.hlevel (codes, map_code, value.the_row.coded) };
 
-    ghost view = { λ p. layers_in p.cells.items };
+    ghost view = { λ p. layers_in p.cells.value.items };
 }
 
 impl RowsPicture {
@@ -63,7 +65,8 @@ impl RowsPicture {
         requires { All (HasRows rows.now.list) cells.now }
         ensures { IfOk result (λ picture. picture ≡ layers_of rows.now.list cells.now places.now.entries) }
     {
-        let cells = pictured_tables(alloc, places.tables(), cells, rows)?;
+        let made = pictured_tables(alloc, places.tables(), cells, rows)?;
+        let cells = shared(alloc, made)?;
         Ok(RowsPicture { cells })
     }
 
@@ -74,6 +77,20 @@ impl RowsPicture {
     {
         are_pictured(places.tables(), cells, rows, self.cells.as_slice())
     }
+}
+
+impl Fork for RowsPicture {
+    fn fork(&self) -> Result<RowsPicture, AllocError> {
+        Ok(RowsPicture {
+            cells: self.cells.clone()?,
+        })
+    }
+}
+
+fn shared(alloc: Global, cells: Vec<PicturedCell>) -> Result<Arc<Vec<PicturedCell>>, AllocError>
+    ensures { IfOk result (λ shared. shared.value ≡ cells) }
+{
+    Ok(Arc::new(alloc, cells)?)
 }
 
 /// What lies at the keys of tables, table behind table.

@@ -5,18 +5,10 @@ ghost use Rattle.std.specs.Option.{option_to_list};
 ghost use Rattle.marked_rows.specs.Cells.{row_with};
 ghost use Rattle.marked_rows.specs.Kept.{IsNumber};
 
-use lock_modes::{Row, Value};
+use lock_modes::Row;
+use row_tables::row_bytes;
 use std::alloc::{AllocError, Global};
 use std::marker::Model;
-
-/// So many bytes are taken by a row beside its values, with what its allocations take.
-const ROW_BYTES: usize = 80;
-
-/// So many by each of its values.
-const VALUE_BYTES: usize = 32;
-
-/// So many by a text beside its bytes.
-const TEXT_BYTES: usize = 16;
 
 /// Rows by their numbers, from 0 on. They become more alone, but where the pool goes back to a mark.
 #[derive(Drop)]
@@ -24,6 +16,8 @@ pub(crate) struct RowPool {
     rows: Vec<Row>,
     /// How many rows there were at the marks that stand, the newest last.
     marks: Vec<usize>,
+    /// So many of the rows, the first ones, were counted.
+    counted: usize,
 }
 
 impl Model for RowPool {
@@ -50,6 +44,7 @@ impl RowPool {
         RowPool {
             rows: Vec::new(alloc),
             marks: Vec::new(alloc),
+            counted: 0,
         }
     }
 
@@ -77,17 +72,15 @@ impl RowPool {
         }
     }
 
-    /// About how many bytes the rows take that came since the newest mark, or since there were none where no mark stands: each row, its values and
-    /// their texts.
-    pub fn new_bytes(&self) -> usize {
-        let first = match self.marks.last() {
-            Some(count) => *count,
-            None => 0,
-        };
+    /// About how many bytes the rows take that were not counted yet, which are counted then: each row, its values and their texts.
+    pub fn count(&mut self) -> usize
+        ensures { self.new ≡ self.old }
+    {
         let mut bytes: usize = 0;
-        for number in first..self.rows.len() {
+        for number in self.counted..self.rows.len() {
             bytes = bytes.saturating_add(row_bytes(&self.rows[number]));
         }
+        self.counted = self.rows.len();
         bytes
     }
 
@@ -108,23 +101,7 @@ impl RowPool {
     {
         if let Some(count) = self.marks.pop() {
             self.rows.truncate(count);
+            self.counted = self.counted.min(count);
         }
-    }
-}
-
-/// About how many bytes a row takes.
-fn row_bytes(row: &Row) -> usize {
-    let mut bytes = ROW_BYTES;
-    for value in row.values() {
-        bytes = bytes.saturating_add(value_bytes(value));
-    }
-    bytes
-}
-
-/// About how many bytes a value takes, with its text, since each row has texts of its own.
-fn value_bytes(value: &Value) -> usize {
-    match value {
-        Value::Int(_) => VALUE_BYTES,
-        Value::Text(text) => text.as_str().len().saturating_add(VALUE_BYTES + TEXT_BYTES),
     }
 }

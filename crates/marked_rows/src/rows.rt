@@ -16,6 +16,7 @@ use crate::ending::{end, forget, note};
 use crate::picture::RowsPicture;
 use crate::places::Places;
 use crate::pool::RowPool;
+use crate::print::print_of;
 use crate::scan::Scan;
 use lock_modes::{Row, Value};
 use marked_lists::MarkedList;
@@ -106,16 +107,23 @@ impl MarkedRows {
         RowsPicture::new(alloc, &self.places, self.cells.as_slice(), &self.rows)
     }
 
+    /// A number that is the same where the rows are the same, and seldom else. It takes no memory.
+    pub fn print(&self) -> u64 {
+        print_of(self.places.tables(), self.cells.as_slice(), &self.rows)
+    }
+
     /// At how many places something was ever written, also where it was gone back from. A picture has as many cells, so this says what it costs.
     pub fn places(&self) -> usize {
         self.places.count()
     }
 
-    /// About how many bytes the rows take that were written since the newest mark, or ever where no mark stands, also those that were written over or
-    /// undone since. A picture that is taken now keeps them alive when the rows go back to the mark, so this belongs to what it costs. Counted are the
-    /// rows, their values and the texts of these; rows that were written before the mark are not.
-    pub fn written_bytes(&self) -> usize {
-        self.rows.new_bytes()
+    /// About how many bytes the rows take that were written and not counted yet, also those that were written over or undone since. They are counted then.
+    /// A picture that is taken now keeps them alive when the rows go back to a mark, so this belongs to what it costs. Counted are the rows, their values
+    /// and the texts of these.
+    pub fn count_written(&mut self) -> usize
+        ensures { self.new ≡ self.old }
+    {
+        self.rows.count()
     }
 
     /// Whether the rows now are those of a picture. Where something was written at a new place since the picture was taken the answer is false. It takes

@@ -1,10 +1,11 @@
 //! Stages that were noted.
 
 ghost use mathlib.Core.List.{IsPrefix};
-ghost use Rattle.std.specs.Prelude.{◌≡◌, [], IfOk, length, true};
+ghost use Rattle.std.specs.Prelude.{◌≡◌, [], IfOk, IfSome, length, true};
 ghost use Rattle.marked_worlds.specs.Stages.{HasSessions, stage_seen, staged_of};
 
 use crate::members::MarkedMembers;
+use finite_maps::Fork;
 use marked_locks::{LocksPicture, MarkedLocks};
 use marked_rows::{MarkedRows, RowsPicture};
 use std::alloc::{AllocError, Global};
@@ -27,6 +28,8 @@ pub(crate) struct SeenStage {
 pub(crate) struct SeenTable {
     pub(crate) stages: Vec<SeenStage>,
     pub(crate) newest: BTreeMap<u64, Option<usize>>,
+    /// For a number made of rows, that of the newest stage of which a picture was taken with it. Later stages with the same rows share the picture.
+    pub(crate) pictured: BTreeMap<u64, usize>,
     /// What all stages take.
     pub(crate) bytes: usize,
 }
@@ -39,6 +42,7 @@ impl SeenTable {
         SeenTable {
             stages: Vec::new(alloc),
             newest: BTreeMap::new(alloc),
+            pictured: BTreeMap::new(alloc),
             bytes: 0,
         }
     }
@@ -47,25 +51,44 @@ impl SeenTable {
     pub(crate) fn newest_with(&self, print: u64) -> Option<usize> {
         *self.newest.get(&print)?
     }
+
+    /// The picture of the rows now, if a stage that was noted has it. It is shared.
+    pub(crate) fn picture_of(
+        &self,
+        rows: &MarkedRows,
+        print: u64,
+    ) -> Result<Option<RowsPicture>, AllocError>
+        ensures { IfOk result (λ known. IfSome known (λ picture. picture ≡ rows.now.now)) }
+    {
+        let Some(number) = self.pictured.get(&print) else {
+            return Ok(None);
+        };
+        match self.stages.get(*number) {
+            Some(stage) if rows.is_pictured(&stage.rows) => {
+                let picture = stage.rows.fork()?;
+                Ok(Some(picture))
+            }
+            _ => Ok(None),
+        }
+    }
 }
 
 impl SeenStage {
     /// The stage of these parts, with the one before it.
     pub(crate) fn of(
         alloc: Global,
-        rows: &MarkedRows,
+        rows: RowsPicture,
         locks: &MarkedLocks,
         members: &mut MarkedMembers,
         count: u8,
         earlier: Option<usize>,
     ) -> Result<SeenStage, AllocError>
         requires { count ≡ length members.old.list }
-        ensures seen { IfOk result (λ seen. stage_seen locks.now.resources members.new.seen seen ≡ staged_of rows.now.now locks.now.now members.old.list) }
+        ensures seen { IfOk result (λ seen. stage_seen locks.now.resources members.new.seen seen ≡ staged_of rows locks.now.now members.old.list) }
         ensures inside { IfOk result (HasSessions members.new.seen) }
         ensures front { IsPrefix members.old.seen members.new.seen }
         ensures same { members.new ≡ record members.old { seen = members.new.seen } }
     {
-        let rows = rows.picture(alloc)?;
         let locks = locks.picture(alloc)?;
         let sessions = members.note(alloc, count)?;
         Ok(SeenStage {

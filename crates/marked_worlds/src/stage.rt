@@ -22,7 +22,7 @@ use lock_modes::Mode;
 use machine_model::{Reply, Status};
 use marked_locks::MarkedLocks;
 use marked_modes::MAX_HOLDERS;
-use marked_rows::{MarkedRows, Scan};
+use marked_rows::{MarkedRows, RowsPicture, Scan};
 use numbered_specs::{ResourceNumber, SpecNumbers};
 use session_steps::{Origin, Rest, Stage};
 use std::alloc::{AllocError, Global};
@@ -39,12 +39,12 @@ const SMALL_STAGE: usize = 112;
 /// So many stages with the print of the one now are compared with it, so that many stages with one print don't cost the square of their number.
 const MOST_COMPARED: usize = 64;
 
-/// What is noted of a stage takes so many bytes for each place at which something was written: what lies there, with its key. The rows there are counted
-/// by `MarkedRows::written_bytes`, each at the stage behind the step that wrote it.
+/// A picture of rows takes so many bytes for each place at which something was written: what lies there, with its key. The rows there are counted by
+/// `MarkedRows::count_written`, each at the first picture behind the step that wrote it.
 const PLACE_BYTES: usize = 80;
 
-/// So many for each resource: the modes that sessions hold on it.
-const RESOURCE_BYTES: usize = 24;
+/// What is noted of a stage beside it takes so many for each resource on which a session holds something, in a list that has room for up to twice as many.
+const HELD_BYTES: usize = 48;
 
 /// So many for each session: how it stands, what it was told, and its wait.
 const SESSION_BYTES: usize = 80;
@@ -203,7 +203,8 @@ impl MarkedStage {
             self.seen.newest.insert(print, None)?;
             return Ok(None);
         }
-        Ok(Some(self.add(print, count, walk_bytes(count))?))
+        let rows = self.pictured()?;
+        Ok(Some(self.add(rows, print, count, walk_bytes(count))?))
     }
 
     /// As `note`, but for who remembers nothing beside stages: each stage is noted while all that is noted takes fewer bytes than there is room for. None
@@ -225,7 +226,8 @@ impl MarkedStage {
         if self.seen.bytes >= room {
             return Ok(None);
         }
-        Ok(Some(self.add(print, count, 0)?))
+        let rows = self.pictured()?;
+        Ok(Some(self.add(rows, print, count, 0)?))
     }
 
     /// How many bytes all that is noted of stages takes, or a few more, with what walks remember beside those that `note` noted.
@@ -233,9 +235,33 @@ impl MarkedStage {
         self.seen.bytes
     }
 
+    /// The picture of the rows now, which is shared with a stage that was noted where one has it. Else it is counted.
+    fn pictured(&mut self) -> Result<RowsPicture, AllocError>
+        ensures picture { IfOk result (λ picture. picture ≡ self.old.now.store) }
+        ensures same { self.new ≡ self.old }
+    {
+        let print = self.rows.print();
+        if let Some(known) = self.seen.picture_of(&self.rows, print)? {
+            return Ok(known);
+        }
+        let picture = self.rows.picture(self.alloc)?;
+        let places = self.rows.places().saturating_mul(PLACE_BYTES);
+        let bytes = self.rows.count_written().saturating_add(places);
+        self.seen.bytes = self.seen.bytes.saturating_add(bytes);
+        self.seen.pictured.insert(print, self.seen.stages.len())?;
+        Ok(picture)
+    }
+
     /// Notes the stage now, with so many sessions, behind all others. The answer is its number. So many bytes are taken beside it.
-    fn add(&mut self, print: u64, count: u8, beside: usize) -> Result<usize, AllocError>
-        requires { count ≡ length self.old.now.members }
+    fn add(
+        &mut self,
+        rows: RowsPicture,
+        print: u64,
+        count: u8,
+        beside: usize,
+    ) -> Result<usize, AllocError>
+        requires rows { rows ≡ self.old.now.store }
+        requires count { count ≡ length self.old.now.members }
         ensures known { IfOk result (λ number. slice_get self.new.seen number ≡ Some self.old.now) }
         ensures front { IsPrefix self.old.seen self.new.seen }
         ensures same { self.new ≡ record self.old { seen = self.new.seen } }
@@ -244,14 +270,14 @@ impl MarkedStage {
         let earlier = self.seen.newest_with(print);
         let stage = SeenStage::of(
             self.alloc,
-            &self.rows,
+            rows,
             &self.locks,
             &mut self.members,
             count,
             earlier,
         )?;
+        let bytes = stage_bytes(stage.locks.held(), count).saturating_add(beside);
         self.seen.stages.push(stage)?;
-        let bytes = self.bytes(count).saturating_add(beside);
         self.seen.bytes = self.seen.bytes.saturating_add(bytes);
         self.seen.newest.insert(print, Some(number))?;
         Ok(number)
@@ -274,20 +300,7 @@ impl MarkedStage {
         None
     }
 
-    /// How many bytes what is noted of the stage takes.
-    fn bytes(&self, count: u8) -> usize {
-        let places = self.rows.places().saturating_mul(PLACE_BYTES);
-        let rows = self.rows.written_bytes();
-        let resources = self.numbers.count().saturating_mul(RESOURCE_BYTES);
-        let sessions = (count as usize).saturating_mul(SESSION_BYTES);
-        places
-            .saturating_add(rows)
-            .saturating_add(resources)
-            .saturating_add(sessions)
-            .saturating_add(STAGE_BYTES)
-    }
-
-    /// Whether the stage is noted only when it may have come a second time, since a picture of it is as long as a table.
+    /// Whether the stage is noted only when it may have come a second time, since to take a picture of it goes through whole tables.
     fn is_large(&self) -> bool {
         self.rows.places().saturating_add(self.numbers.count()) > SMALL_STAGE
     }
@@ -416,6 +429,13 @@ impl Stage for MarkedStage {
     }
 
     ghost counts = { λ x. refl };
+}
+
+/// How many bytes what is noted of a stage takes beside the picture of its rows, with locks on so many resources and so many sessions.
+fn stage_bytes(held: usize, count: u8) -> usize {
+    let held = held.saturating_mul(HELD_BYTES);
+    let sessions = (count as usize).saturating_mul(SESSION_BYTES);
+    held.saturating_add(sessions).saturating_add(STAGE_BYTES)
 }
 
 /// How many bytes a walk takes for what it remembers beside a stage with so many sessions. The control session is one of these, and sends no step.

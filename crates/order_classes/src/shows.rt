@@ -1,6 +1,6 @@
 //! What an order shows: what it tells each session, and what it leaves.
 
-ghost use Rattle.std.specs.Prelude.{◌≡◌, Some, IfOk};
+ghost use Rattle.std.specs.Prelude.{◌≡◌, Some, IfOk, true};
 ghost use Rattle.std.proofs.Common.{rules};
 ghost use Rattle.std.specs.Ordering.{eq_by_cmp};
 ghost use Rattle.std.specs.Cmp.{po, eq_by_cmp_equiv, partial_equiv_from_equiv};
@@ -11,6 +11,7 @@ use line_moments::TableRows;
 use sqlite_items::Items;
 use std::alloc::{AllocError, Global};
 use std::cmp::Ordering;
+use std::hash::{FoldHasher, Hasher};
 use transcripts::Outcome;
 
 /// How a session stands at the end of an order.
@@ -74,10 +75,34 @@ impl Shows {
     pub fn copied(&self, alloc: Global) -> Result<Shows, AllocError>
         ensures { IfOk result (λ copy. copy ≡ self.now) }
     {
+        self.sharing(alloc, self)
+    }
+
+    /// The same, with the rows that another one leaves, which are shared.
+    pub fn sharing(&self, alloc: Global, other: &Shows) -> Result<Shows, AllocError>
+        requires { other.now.left ≡ self.now.left }
+        ensures { IfOk result (λ copy. copy ≡ self.now) }
+    {
         let told = self.told.fork()?;
-        let left = copied_tables(alloc, self.left.as_slice())?;
+        let left = copied_tables(alloc, other.left.as_slice())?;
         let rests = copied_rests(alloc, self.rests.as_slice())?;
         Ok(Shows { told, left, rests })
+    }
+
+    /// Whether another one leaves the same rows.
+    pub fn leaves_as(&self, other: &Shows) -> bool
+        ensures { result ≡ true → other.now.left ≡ self.now.left }
+    {
+        tables_order(other.left.as_slice(), self.left.as_slice()).is_eq()
+    }
+
+    /// A number that is the same where the same rows are left, and seldom else.
+    pub fn left_print(&self) -> u64 {
+        let mut hasher = FoldHasher::default();
+        for table in self.left.as_slice() {
+            table.print(&mut hasher);
+        }
+        hasher.finish()
     }
 }
 

@@ -28,11 +28,13 @@ fn rows_in(alloc: Global, store: &Store, table: u16) -> Result<TableRows, AllocE
     requires { spec.NothingOpen store.now }
     ensures { IfOk result (λ rows. rows ≡ rows_of table store.now.committed) }
 {
-    let mut rows = TableRows::new(alloc);
+    let mut rows = Vec::new(alloc);
     for (key, row) in store.scan(0, table) {
-        rows.push(key, row)?;
+        let key = key.fork()?;
+        let row = row.fork()?;
+        rows.push((key, row))?;
     }
-    Ok(rows)
+    TableRows::from_rows(rows)
 }
 
 fn copied_columns(alloc: Global, columns: &[Column]) -> Result<Items<Column>, AllocError>

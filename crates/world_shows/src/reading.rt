@@ -92,11 +92,13 @@ fn rows_behind(alloc: Global, world: &MarkedWorld<'_>, table: u16) -> Result<Tab
     requires { world.now.spent ≡ false }
     ensures { IfOk result (λ rows. rows ≡ rows_of table world.now.world.rows) }
 {
-    let mut rows = TableRows::new(alloc);
+    let mut rows = Vec::new(alloc);
     for (key, row) in world.committed(table) {
-        rows.push(key, row)?;
+        let key = key.fork()?;
+        let row = row.fork()?;
+        rows.push((key, row))?;
     }
-    Ok(rows)
+    TableRows::from_rows(rows)
 }
 
 /// The rows of a table, each at 0.
@@ -104,11 +106,12 @@ fn unnumbered(alloc: Global, world: &MarkedWorld<'_>, table: u16) -> Result<Tabl
     requires { world.now.spent ≡ false }
     ensures { IfOk result (λ rows. rows ≡ map at_zero (rows_of table world.now.world.rows)) }
 {
-    let mut rows = TableRows::new(alloc);
+    let mut rows = Vec::new(alloc);
     for (_key, row) in world.committed(table) {
-        rows.push(&Value::Int(0), row)?;
+        let row = row.fork()?;
+        rows.push((Value::Int(0), row))?;
     }
-    Ok(rows)
+    TableRows::from_rows(rows)
 }
 
 /// How sessions stand, in their order.

@@ -9,4 +9,4 @@ pub returns : goal.returns
 returns c =
     let rows = c.args.rows.now.list in
     let cells = c.args.cells.now in
-    ap layers_in c.in_ok-cells.ensures ∙ pictured-layers rows cells 0 (map vec_items c.tables.result.now) ∙ ap (layers_of rows cells) c.tables.ensures
+    ap (λ v. layers_in v.items) c.in_ok-cells.ensures ∙ ap layers_in c.in_ok-made.ensures ∙ pictured-layers rows cells 0 (map vec_items c.tables.result.now) ∙ ap (layers_of rows cells) c.tables.ensures
