@@ -6,15 +6,19 @@ The specs are those of `classes/` that have a row below. With `--alone` orders a
 all of them; else PROGRAM prints the classes as JSON. Of each spec are known: the permutations, and the orders that clients can
 send; classes and results; how many orders and classes have each letter; and the sum of the least ranks of the classes. The numbers of orders are
 known apart from the machine too: by a formula, by row queues alone (`orders_by_queues`), or from another hand.
+
+Of PROGRAM it is looked, too, how much memory it takes for a spec in which each step writes all rows.
 """
 
 import json
+import os
 import sys
 from dataclasses import dataclass
 from functools import cache
 from math import factorial
 from pathlib import Path
-from subprocess import run
+from subprocess import PIPE, Popen, run
+from tempfile import TemporaryDirectory
 
 from binding import bind
 from class_request import JSON
@@ -135,6 +139,40 @@ def figures_of(program, path):
     )
 
 
+# ---- memory
+
+
+# Each step tells how many steps came before it, so each order has a class; and the rows are the same behind as many steps.
+ROWS, WRITERS, WRITES = 500, 3, 3
+MOST_BYTES = 40_000_000
+
+
+def every_row():
+    """A spec in which each step writes all rows."""
+    rows = "".join(f"INSERT INTO t VALUES ({key}, {key}); " for key in range(ROWS))
+    sessions = (
+        f"session s{session}\n" + "".join(f"step s{session}_{step} {{ UPDATE t SET v = v + 1; SELECT sum(v) FROM t; }}\n" for step in range(WRITES))
+        for session in range(WRITERS)
+    )
+    return f"setup {{ CREATE TABLE t (id int PRIMARY KEY, v int); {rows}}}\n" + "".join(sessions)
+
+
+def wrong_memory(program):
+    """Where a spec in which each step writes all rows has other classes, or takes more memory."""
+    with TemporaryDirectory() as folder:
+        path = Path(folder) / "every_row.spec"
+        path.write_text(every_row(), encoding="utf-8")
+        process = Popen([program, "classes", path, "--json"], stdout=PIPE)
+        told = json.loads(process.stdout.read())
+        memory = os.wait4(process.pid, 0)[2].ru_maxrss * 1024
+    orders = orders_of_disjoint(WRITERS, WRITES)
+    print(f"every_row: {len(told['classes'])} classes, {memory} bytes", flush=True)
+    if len(told["classes"]) != orders:
+        yield f"every_row has a class for each of {orders} orders"
+    if memory > MOST_BYTES:
+        yield f"every_row takes {memory} bytes"
+
+
 def main(program, *names):
     wrong = [*wrong_orders()]
     for name, known in FIGURES.items():
@@ -142,6 +180,8 @@ def main(program, *names):
             figures = figures_of(program, SPECS / f"{name}.spec")
             print(f"{name}: {figures}", flush=True)
             wrong += [f"{name}: {known} are known"] * (figures != known)
+    if program != ALONE and not names:
+        wrong += wrong_memory(program)
     print("".join(f"{one}\n" for one in wrong), end="")
     print(f"{len(wrong)} differences")
     return 1 if wrong else 0
