@@ -10,7 +10,7 @@ use Rattle.std.proofs.lemmas.Cmp.{tied_itself}
 use Rattle.lock_queues.specs.Reasons.{Among}
 use Rattle.order_classes.specs.Order.{shows_cmp, shows_total}
 use Rattle.order_classes.specs.declared.shows.Shows.{Shows}
-use Rattle.order_classes.proofs.ShowsOrder.{shows_same}
+use Rattle.order_classes.proofs.ShowsOrder.{from-equal, shows_same}
 use Rattle.different_shows.specs.Different.{AreDifferent, AreNumbered}
 use Rattle.different_shows.proofs.Places.{more-left, at-last, parts-at, among-at, at-among}
 
@@ -27,12 +27,7 @@ found-so all numbers s None are e = λ m. let at = among-at all s m in let bad :
 found-so all numbers s (Some n) are e = (are s n).0 (sym e)
 
 same-at : (s a : Shows) → is_at (shows_cmp s) a ≡ true → s ≡ a
-same-at s a e = shows_same s a (equal (shows_cmp s a) e)
-  where
-    equal : (r : Ordering) → is_eq r ≡ true → r ≡ Equal
-    equal Less h = cc
-    equal Equal h = refl
-    equal Greater h = cc
+same-at s a e = shows_same s a (from-equal (shows_cmp s a) e)
 
 -- with one more, which was not there, each is found still
 pub numbered-more : (all : List Shows) (old new : List (Shows × ℕ)) (s : Shows) → AreNumbered all old → (Among s all → ⊥)

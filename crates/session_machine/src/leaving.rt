@@ -34,7 +34,8 @@ fn rows_in(alloc: Global, store: &Store, table: u16) -> Result<TableRows, AllocE
         let row = row.fork()?;
         rows.push((key, row))?;
     }
-    TableRows::from_rows(rows)
+    let table = TableRows::from_rows(rows)?;
+    Ok(table)
 }
 
 fn copied_columns(alloc: Global, columns: &[Column]) -> Result<Items<Column>, AllocError>

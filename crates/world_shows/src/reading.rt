@@ -98,7 +98,8 @@ fn rows_behind(alloc: Global, world: &MarkedWorld<'_>, table: u16) -> Result<Tab
         let row = row.fork()?;
         rows.push((key, row))?;
     }
-    TableRows::from_rows(rows)
+    let seen = TableRows::from_rows(rows)?;
+    Ok(seen)
 }
 
 /// The rows of a table, each at 0.
@@ -111,7 +112,8 @@ fn unnumbered(alloc: Global, world: &MarkedWorld<'_>, table: u16) -> Result<Tabl
         let row = row.fork()?;
         rows.push((Value::Int(0), row))?;
     }
-    TableRows::from_rows(rows)
+    let seen = TableRows::from_rows(rows)?;
+    Ok(seen)
 }
 
 /// How sessions stand, in their order.

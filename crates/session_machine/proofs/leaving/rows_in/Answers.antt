@@ -8,5 +8,5 @@ scan-key-items-requires c = λ key other ne. open-at c.args.store.now c.requires
 
 pub returns : goal.returns
 returns c =
-    sym (append-nil c.loop-key.rows.items) ∙ sym (ap (λ es. c.loop-key.rows.items ++ es) c.in-None.ensures.steps.0) ∙ c.loop-key.invariant
+    c.in_ok-table.ensures ∙ sym (append-nil c.loop-key.rows.items) ∙ sym (ap (λ es. c.loop-key.rows.items ++ es) c.in-None.ensures.steps.0) ∙ c.loop-key.invariant
     ∙ ap (rows_of c.args.table) (sight-open 0 c.args.store.now c.requires)

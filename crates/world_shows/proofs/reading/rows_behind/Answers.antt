@@ -2,4 +2,4 @@ use Rattle.std.proofs.Common.{◌++◌, sym, ap, ◌∙◌, append-nil}
 use Rattle.world_shows.proofs.reading.rows_behind.Goals as goal
 
 pub returns : goal.returns
-returns c = sym (append-nil c.loop-key.rows.items) ∙ sym (ap (λ es. c.loop-key.rows.items ++ es) c.in-None.ensures.steps.0) ∙ c.loop-key.invariant
+returns c = c.in_ok-seen.ensures ∙ sym (append-nil c.loop-key.rows.items) ∙ sym (ap (λ es. c.loop-key.rows.items ++ es) c.in-None.ensures.steps.0) ∙ c.loop-key.invariant
