@@ -1,6 +1,7 @@
 use mathlib.Core.List.{IsPrefix}
-use Rattle.std.proofs.Common.{◌∙◌, ap, map, refl, subst, Some}
-use Rattle.marked_worlds.specs.Stages.{MarkedStages, stage_seen}
+use Rattle.std.proofs.Common.{◌∙◌, ap, map, refl, subst, sym, Some}
+use Rattle.row_tables.specs.Layers.{Layers}
+use Rattle.marked_worlds.specs.Stages.{MarkedStages, stage_seen, staged_of}
 use Rattle.marked_worlds.proofs.SeenLemmas.{last-mapped, more-inside, more-stages, same-inside, same-stages, still-staged}
 use Rattle.marked_worlds.proofs.stage.MarkedStage.add.Goals as goal
 
@@ -41,7 +42,9 @@ pub returns-clause-known : goal.returns-clause-known
 returns-clause-known c =
     last-mapped (stage_seen c.self.inside.locks.resources c.of.new.members.seen) c.self.inside.seen.stages.items c.push.new.self.items c.in_ok-stage.stage
     c.in_ok-push.ensures.items c.len-number.result (c.len-number.ensures ∙ c.self.inside.seen.stages.ok.0)
-    ∙ ap Some (c.in_ok-stage.ensures.seen ∙ ap (λ (v : MarkedStages). v.now) c.self.view_is)
+    ∙ ap Some (c.in_ok-stage.ensures.seen
+        ∙ ap (λ (rows : Layers). staged_of rows c.self.inside.locks.now c.self.inside.members.list) (c.requires.rows ∙ sym (ap (λ (v : MarkedStages). v.now.store) c.self.view_is))
+        ∙ ap (λ (v : MarkedStages). v.now) c.self.view_is)
 
 pub returns-clause-front : goal.returns-clause-front
 returns-clause-front c =
