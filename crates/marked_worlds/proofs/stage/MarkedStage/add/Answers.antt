@@ -43,8 +43,8 @@ returns-clause-known c =
     last-mapped (stage_seen c.self.inside.locks.resources c.of.new.members.seen) c.self.inside.seen.stages.items c.push.new.self.items c.in_ok-stage.stage
     c.in_ok-push.ensures.items c.len-number.result (c.len-number.ensures ∙ c.self.inside.seen.stages.ok.0)
     ∙ ap Some (c.in_ok-stage.ensures.seen
-        ∙ ap (λ (rows : Layers). staged_of rows c.self.inside.locks.now c.self.inside.members.list) (c.requires.rows ∙ sym (ap (λ (v : MarkedStages). v.now.store) c.self.view_is))
-        ∙ ap (λ (v : MarkedStages). v.now) c.self.view_is)
+    ∙ ap (λ (rows : Layers). staged_of rows c.self.inside.locks.now c.self.inside.members.list) (c.requires.rows ∙ sym (ap (λ (v : MarkedStages). v.now.store) c.self.view_is))
+    ∙ ap (λ (v : MarkedStages). v.now) c.self.view_is)
 
 pub returns-clause-front : goal.returns-clause-front
 returns-clause-front c =
