@@ -21,8 +21,8 @@ pub struct Different {
     alloc: Global,
     shows: Vec<Shows>,
     numbers: BTreeMap<Shows, u32>,
-    /// For a number made of the rows that are left, that of the first one that leaves such rows.
-    leaving: BTreeMap<u64, u32>,
+    /// For a number made of the rows that are left, the place of the newest one that had such rows of its own.
+    leaving: BTreeMap<u64, usize>,
     bytes: usize,
 }
 
@@ -98,29 +98,29 @@ impl Different {
         if let Some(number) = self.find(shows) {
             return Ok(number);
         }
-        self.add(shows)
+        let copy = self.shared(shows)?;
+        self.add(copy)
     }
 
     /// Adds what is not there.
-    fn add(&mut self, shows: &Shows) -> Result<u32, AllocError>
-        requires { Among shows.now self.old → ⊥ }
-        ensures ok { IfOk result (λ n. (n ≡ length self.old) × (self.new ≡ self.old ++ shows.now ∷ [])) }
+    fn add(&mut self, shows: Shows) -> Result<u32, AllocError>
+        requires { Among shows self.old → ⊥ }
+        ensures ok { IfOk result (λ n. (n ≡ length self.old) × (self.new ≡ self.old ++ shows ∷ [])) }
         ensures err { OnErr result (self.new ≡ self.old) }
     {
         // No memory has room for so many.
         let Ok(number) = u32::try_from(self.shows.len()) else {
             return Err(AllocError);
         };
-        let copy = self.shared(number, shows)?;
-        let key = copy.copied(self.alloc)?;
+        let key = shows.copied(self.alloc)?;
         self.shows.reserve(1)?;
         self.numbers.insert(key, number)?;
-        self.shows.push_reserved(copy);
+        self.shows.push_reserved(shows);
         Ok(number)
     }
 
-    /// A copy of what will have this number. It shares its rows with one that is there, if one leaves the same; else they are counted.
-    fn shared(&mut self, number: u32, shows: &Shows) -> Result<Shows, AllocError>
+    /// A copy of what is added next. It shares its rows with one that is there, if one leaves the same; else they are counted.
+    fn shared(&mut self, shows: &Shows) -> Result<Shows, AllocError>
         ensures copy { IfOk result (λ copy. copy ≡ shows.now) }
         ensures same { self.new ≡ self.old }
     {
@@ -132,14 +132,14 @@ impl Different {
             }
         }
         self.bytes = self.bytes.saturating_add(left_bytes(shows));
-        self.leaving.insert(print, number)?;
+        self.leaving.insert(print, self.shows.len())?;
         shows.copied(self.alloc)
     }
 
     /// One that may leave the rows of which a number is made.
     fn leaves(&self, print: u64) -> Option<&Shows> {
         let number = self.leaving.get(&print)?;
-        self.shows.get(*number as usize)
+        self.shows.get(*number)
     }
 }
 

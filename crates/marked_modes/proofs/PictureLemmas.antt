@@ -1,5 +1,5 @@
 -- Rows of which those in which somebody holds something are kept.
-use Rattle.std.proofs.Common.{◌≡◌, refl, sym, ap, ◌∙◌, subst, ℕ, ◌+◌, ◌<◌, List, [], ◌∷◌, ◌++◌, append_assoc, length, take, replicate, get_or, slice_get, Some, arith}
+use Rattle.std.proofs.Common.{◌≡◌, refl, sym, ap, ◌∙◌, ℕ, ◌+◌, ◌<◌, List, [], ◌∷◌, ◌++◌, append_assoc, length, take, replicate, get_or, slice_get, Some}
 use Rattle.std.proofs.lemmas.List.{replicate-append-replicate, take_more}
 use Rattle.std.proofs.lemmas.Option.{slice_get_within, get_or_from_slice_get}
 use Rattle.marked_modes.specs.Held.{blank_row, spread}

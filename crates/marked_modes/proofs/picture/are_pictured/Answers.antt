@@ -1,4 +1,4 @@
-use Rattle.std.proofs.Common.{◌∙◌, ap, arith}
+use Rattle.std.proofs.Common.{arith}
 use Rattle.marked_modes.proofs.PictureLemmas.{behind-blank, behind-known}
 use Rattle.marked_modes.proofs.picture.are_pictured.Goals as goal
 use Rattle.marked_modes.proofs.picture.are_pictured.Goals.{then-is_blank, else-is_blank+then-is_at}

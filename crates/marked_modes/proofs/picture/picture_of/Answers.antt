@@ -1,4 +1,4 @@
-use Rattle.std.proofs.Common.{◌++◌, ap, arith}
+use Rattle.std.proofs.Common.{arith}
 use Rattle.marked_modes.proofs.PictureLemmas.{behind-blank, behind-held}
 use Rattle.marked_modes.proofs.picture.picture_of.Goals as goal
 use Rattle.marked_modes.proofs.picture.picture_of.Goals.{then-is_blank, else-is_blank+in_ok-push}
