@@ -1,8 +1,9 @@
 """Makes the words of what is asked of the classes of a spec: filters, queries and expectations that fit its tables, from a seed."""
 
-from class_request import ALL_ORDERS, BRIEF, EXPECT, FILTERS, FLAGS, HTML, JSON, MEMORY, NOT_OF_PAGES, OLD_WORDS, QUERY, SAMPLE, SEED, filter_of, opposite
+from class_request import ALL_ORDERS, BRIEF, EXPECT, FILTERS, FLAGS, HTML, JSON, LEVEL, MEMORY, NOT_OF_PAGES, OLD_WORDS, QUERY, SAMPLE, SEED, filter_of, opposite
 from compare_shown import is_told_alike
 from generate import BIG, ROW_LOCKS, Maker, Table
+from machine import LEVELS
 from queries import is_query, query_of, rows_in, seen
 
 MOST_TRIES, ORDERS_SEEN = 20, 8
@@ -213,6 +214,7 @@ class Asker(Maker):
         if self.some(0.25):
             groups += self.faults(any("anomaly" in one[0] for one in groups))
         groups += [[MEMORY, self.one(["500", "1000000", "0", "1000001", "many"])]] * self.some(0.1)
+        groups += [[LEVEL, self.one(LEVELS * 8 + ["snapshot"])]] * self.one([0] * 40 + [1] * 8 + [2])
         if self.some(0.2):
             groups += [[SAMPLE, self.one(["1", "2", "7", "40", "300", "300", "0", "1000001"])]]
             groups += [[SEED, self.one(["0", "1", "7", "18446744073709551615", "18446744073709551616"])]] * self.some(0.5)

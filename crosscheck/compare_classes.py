@@ -3,7 +3,8 @@
 usage: python3 crosscheck/compare_classes.py PROGRAM|--alone KIND FIRST_SEED SEEDS
 
 Of each spec are asked for: all classes and results, brief or not, of the orders that clients can send and of all permutations, as text, as JSON and
-as a page that a browser opens, and then some mix of filters, flags, queries and expectations (`class_asking.py`). What the command line refuses has
+as a page that a browser opens, and then some mix of filters, flags, queries and expectations (`class_asking.py`). By its seed half of the specs are asked for
+at no level, a third at READ COMMITTED and the others at SERIALIZABLE. What the command line refuses has
 to have the same status, and all else the same bytes. Of a spec with many orders some are made permutation lines. Before them come the pages of
 `classes/`, which were worked out by hand. With `--alone` no program is run: orders are counted by layers of states and one by one, and classes, texts
 and JSON are held against what has to hold of each (`class_laws.py`, `class_pages.py`), as they are and at READ COMMITTED. KIND is one of those below, or
@@ -24,12 +25,12 @@ from class_asking import Asker
 from class_laws import MOST_ONE_BY_ONE, MOST_SESSIONS, wrong_anomalies, wrong_filters, wrong_first_orders, wrong_numbers, wrong_orders, wrong_pages
 from class_laws import wrong_queries, wrong_ways
 from class_pages import kinds_of, read_back
-from class_request import ALL_ORDERS, BRIEF, BY_RESULT, HTML, JSON
+from class_request import ALL_ORDERS, BRIEF, BY_RESULT, HTML, JSON, LEVEL, request_of
 from classes import Asking, share, table_lines
 from compare import Comparison, ended, fault_of, told
 from compare_shown import ALL, ALL_KINDS, ALONE, FILES, bound, specs_of
 from generate import Maker
-from machine import READ_COMMITTED
+from machine import LEVELS, READ_COMMITTED, SERIALIZABLE
 from orders import order_text
 from refusal import Refusal
 
@@ -38,6 +39,8 @@ MOST_ORDERS, MOST_LINES, NEAR_RANKS = 300_000, 60, 40
 TOLD = [[], [BY_RESULT], [ALL_ORDERS], [ALL_ORDERS, BY_RESULT], [BRIEF], [JSON], [JSON, ALL_ORDERS], [JSON, BY_RESULT, BRIEF], [HTML]]
 # So many runs of a spec ask for something by filters, queries and expectations.
 RUNS_ASKED = 8
+# At which level a spec is asked for by a word.
+LEVELS_ASKED = [None, None, None, READ_COMMITTED, READ_COMMITTED, SERIALIZABLE]
 CROWD = {5: [1, 1, 2], 6: [1, 1, 1, 2], 7: [1]}
 MOST = 2**63 - 1
 
@@ -117,20 +120,30 @@ def asker_of(asking, seed):
         return Asker(chosen_by, spec)
 
 
-def requests(asking, seed):
-    """Words that ask for the classes of a spec."""
-    yield from TOLD
+def level_of(seed):
+    return Random(f"level {seed}").choice(LEVELS_ASKED)
+
+
+def at_level(words, level):
+    """The words with this level, where they have none."""
+    return words if level is None or LEVEL in words else [*words, LEVEL, level]
+
+
+def requests(asking, seed, level=None):
+    """Words that ask for the classes of a spec, at this level or at that of the file."""
+    yield from (at_level(words, level) for words in TOLD)
     asker = asker_of(asking, seed)
-    yield from (asker.words() for _ in range(RUNS_ASKED))
+    yield from (at_level(asker.words(), level) for _ in range(RUNS_ASKED))
 
 
 def runs(text, seed, path):
     """The words of some runs of a spec, and what each tells; those that the command line takes."""
     random, asking = Random(seed), Asking(text)
-    for words in requests(asking, seed):
+    for words in requests(asking, seed, level_of(seed)):
         want = asking.answer(path, words)
+        is_told = [word for word in words if word not in (LEVEL, *LEVELS)] in TOLD
         if want[0] != 2:
-            yield ["classes", *(random.choice([[path, *words], [*words, path]]) if words in TOLD else [path, *words])], want
+            yield ["classes", *(random.choice([[path, *words], [*words, path]]) if is_told else [path, *words])], want
 
 
 # ---- worked out by hand
@@ -182,6 +195,8 @@ REFUSED = [
     ("skew", "--deadlock=c", 'skew.spec: no session "c"'),
     ("skew", "--no-deadlock=a --no-deadlock=A --brief", 'skew.spec: no session "A"'),
     ("skew", """--deadlock='say "a\\"'""", r'skew.spec: no session "say \"a\\\""'),
+    ("levels", "--level serializable", "levels.spec: REPEATABLE READ is not modelled (line 6)"),
+    ("levels", "--level read-committed --deadlock=e --query ''", "levels.spec: REPEATABLE READ is not modelled (line 6)"),
     ("lines", "--no-anomaly", "lines.spec: no serial orders"),
     ("lines", "--by-result --anomaly --waits", "lines.spec: no serial orders"),
     # Queries that do not read, with the place of what cannot stand there, or of their end.
@@ -233,6 +248,7 @@ REFUSED = [
 # Words that the command line refuses.
 NO_WORDS = ["--answers", "--brief --look 'SELECT v FROM t'", "--left", "--no-serial", "--serial", "--all-orders --unsent", "--no-unsent --all-orders"]
 NO_WORDS += ["--not-sent", "--json --no-not-sent", "--ranks", "--stuck=a", "--expect 'SELECT v FROM t'", "--json --json", "--html --json", "--brief --html"]
+NO_WORDS += [LEVEL, *(f"{LEVEL} {word}" for word in ("snapshot", "SERIALIZABLE", "repeatable-read", "''", "serializable --level serializable"))]
 NO_WORDS += [f"--memory {number}" for number in ("0", "1000001", "-1", "1e3", "''")]
 # Words, and the front of the first line that `three.spec` has with them. A script of another hand counted these over what a book says of each order.
 COUNTED = {
@@ -346,7 +362,7 @@ def compare_with(program, kinds, first, seeds):
             for name, seed, text in texts_of(kind, first, seeds):
                 path, asking = Random(seed).choice(FILES), Asking(text)
                 Path(folder, path).write_bytes(text)
-                for words in requests(asking, seed):
+                for words in requests(asking, seed, level_of(seed)):
                     comparison.look(f"{kind}, {name}", ["classes", path, *words], asking.answer(path, words))
     return comparison.end()
 
@@ -361,7 +377,7 @@ def wrong_told(asking, seed, counts):
         status, out, error = asking.answer(path, words)
         counts.update(kinds_of(out) if out else ["status 2"] if status == 2 else [f"refused: {fault_of(error)}"])
         wrong = [*read_back(out).wrong(status)] if out else []
-        wrong += wrong_pages(asking, path, words, random) if status != 2 else []
+        wrong += wrong_pages(asking.at(request_of(words).level), path, words, random) if status != 2 else []
         yield from (f"{' '.join(words)}: {one}" for one in wrong)
 
 

@@ -21,6 +21,7 @@ from tempfile import TemporaryDirectory
 from compare import PROGRAM, ended
 from compare_classes import CLASS_KINDS, specs_made, with_few_orders
 from generate import STRAY
+from levels import WHY
 
 TOP = Path(__file__).resolve().parent.parent
 NAMES = ["a.spec", "é \"<b>&.spec", "two\nlines.spec"]
@@ -42,6 +43,8 @@ def line_of(fault, name):
         return f"{where}{fault['fault']} error {fault['kind']} at {fault['place']}\n"
     if fault["fault"] == "states":
         return f"{where}too many different states: more than {fault['place']}; classes --sample N looks at random orders\n"
+    if fault["fault"] == "level":
+        return f"{where}{WHY[fault['kind']]} (line {fault['place']})\n"
     return {"range": f"{where}rank out of range\n", "memory": "isofarm: no memory\n"}.get(fault["fault"], str(fault))
 
 

@@ -43,6 +43,7 @@ BETWEEN = b'</script><script type="application/json" class="order">'
 MOST_CLASSES = 30
 LEAST_CONTRAST = 4.5
 FAULTS_TOLD = 5
+LEVELS = ["READ COMMITTED", "SERIALIZABLE"]
 WORDS = {"W": "waits", "D": "deadlock", "E": "error", "N": "not sent", "S": "waits for ever", "R": "anomaly"}
 OPEN = {"in": "is in a transaction", "failed": "is in a failed block"}
 BLOCKS = {"in": "is in a transaction", "failed": "is in a failed block, which takes COMMIT and ROLLBACK alone,", "out": "has no transaction open"}
@@ -358,8 +359,19 @@ class Wanted:
                 place = [each["first_rank"] for each in self.classes].index(one["first"])
                 text += f"; first fails at rank {one['first']}, in {self.word} {place + 1}"
             yield visible(text)
-        if lines := self.value["level_lines"]:
-            yield f"Isolation levels have no effect (line{'s' * (len(lines) > 1)} {', '.join(map(str, lines))})."
+        if levels := self.levels():
+            yield levels
+
+    def levels(self):
+        """What the page says of levels; nothing where none is asked for and the file has none."""
+
+        def told(lines):
+            return f"(line{'s' * (len(lines) > 1)} {', '.join(map(str, lines))})"
+
+        if asked := self.value.get("levels"):
+            level, other = LEVELS if asked["default"] == "read-committed" else LEVELS[::-1]
+            return f"Isolation level: {level}" + (f"; {other} {told(asked['other_lines'])}" if asked["other_lines"] else "") + "."
+        return f"Isolation levels have no effect {told(self.value['level_lines'])}." if self.value["level_lines"] else ""
 
     def marked(self, at):
         """The steps of a class's order, with the marks that its moments have."""

@@ -2,7 +2,8 @@
 
 usage: python3 crosscheck/compare_shown.py PROGRAM|--alone KIND FIRST_SEED SEEDS
 
-Some orders of each spec are shown, by their ranks and by the names of their steps, as text and as JSON; some have no rank. Before them come
+Some orders of each spec are shown, by their ranks and by the names of their steps, as text and as JSON; some have no rank. Half of them are asked
+for at no level, and the others at one or the other. Before them come
 the specs of `shown/`, whose texts and JSON were worked out by hand. With `--alone` no program is run: the moments, texts and JSON of these
 orders are held against what has to hold of each (`moment_laws.py`), as they are and at READ COMMITTED. KIND is one of those below, or `all`:
 `named` has names and texts that are long, alike or steer a terminal, `many` has five to eight sessions, and each of the other kinds is that of
@@ -22,7 +23,7 @@ from unicodedata import category
 from binding import bind
 from compare import WORDS, Comparison, ended, texts_of
 from generate import KINDS, Maker
-from machine import READ_COMMITTED
+from machine import LEVELS, READ_COMMITTED
 from moment_laws import wrong_in
 from orders import orders
 from refusal import Refusal
@@ -159,11 +160,14 @@ def runs(text, seed, path):
     else:
         asked = list(words_of(spec, random))
     for words in asked:
+        level = random.choice([None, None, *LEVELS])
+        at = ["--level", level] if level else []
         behind = words if len(words) == 1 and words[0].isdigit() else ["--", *words]
-        yield ["show", path, *behind], answer(text, path, words, False)
-        places = [["show", "--json", path, *behind], ["show", path, "--json", *behind]]
-        places += [["show", path, *behind, "--json"]] * (behind is words)
-        yield random.choice(places), answer(text, path, words, True)
+        places = [["show", *at, path, *behind], ["show", path, *at, *behind]] + [["show", path, *behind, *at]] * (behind is words)
+        yield random.choice(places), answer(text, path, words, False, level)
+        places = [["show", "--json", *at, path, *behind], ["show", path, *at, "--json", *behind]]
+        places += [["show", path, *behind, "--json", *at]] * (behind is words)
+        yield random.choice(places), answer(text, path, words, True, level)
 
 
 # ---- worked out by hand

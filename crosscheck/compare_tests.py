@@ -3,7 +3,7 @@
 usage: python3 crosscheck/compare_tests.py PROGRAM FIRST_SEED SEEDS
 
 Each spec of a seed is accepted by `isofarm test --update`, whose file has to be its record; then one thing in it is edited, or
-nothing, and it is tested. Before them come edits that were worked out by hand. The last lines count what was told.
+nothing, and it is tested. Half of them are accepted at no level, the others at one or the other, and mostly tested at the same. Before them come edits that were worked out by hand. The last lines count what was told.
 """
 
 import re
@@ -14,11 +14,13 @@ from random import Random
 from subprocess import run
 from tempfile import TemporaryDirectory
 
-from compare_classes import texts_of
+from compare_classes import level_of, texts_of
+from generate import LEVEL_LINES, WRONG_LEVEL_LINES
+from machine import LEVELS
 from refusal import Refusal
 from spec_tests import Side, told
 
-KINDS = ("leaving", "hindering", "few", "crowd")
+KINDS = ("leaving", "hindering", "few", "levels", "crowd")
 NAME = "a.spec"
 MOST_ORDERS = 3_000
 
@@ -132,6 +134,11 @@ WORKED = [
     ),
     # An isolation level without effect stands in the head alone, and so does a file's name.
     ("session a step s { BEGIN; }", "session a step s { BEGIN ISOLATION LEVEL READ COMMITTED; }", 1, "only the head of the record differs"),
+    ("session a step s {}", "# level: serializable\nsession a step s {}", 1, "only the head of the record differs"),
+    ("session a step s {}\n\t# level:read-committed", "session a step s { BEGIN; }", 1, "only the head of the record differs"),
+    (ONE, f"# level: snapshot\n{ONE}", 3, "no such level (line 1)"),
+    (ONE, f"# level: serializable\n{ONE}\n# level: serializable", 3, "a second level (line 3)"),
+    (ONE, "# level: serializable\nsession a step s {\nSTART TRANSACTION ISOLATION LEVEL REPEATABLE READ; }", 3, "REPEATABLE READ is not modelled (line 3)"),
     # Texts that are read have line feeds, an empty line, and what looks like an error and a result.
     (
         READS,
@@ -175,7 +182,7 @@ WORKED = [
 def edited(text, random):
     """The text with one thing in it changed, if there is such a thing."""
     whole = text.decode()
-    edit = random.choice([one_number, one_step_less, one_step_more, one_name, one_session_less, nothing, nothing_told])
+    edit = random.choice([one_number, one_step_less, one_step_more, one_name, one_session_less, one_level, nothing, nothing_told])
     return edit(whole, random).encode()
 
 
@@ -214,6 +221,10 @@ def one_session_less(whole, random):
     return put(whole, one_of(r"\bsession \w+[^}]*\}(?:(?!session)[\s\S])*", whole, random), "")
 
 
+def one_level(whole, random):
+    return f"{random.choice(LEVEL_LINES * 4 + WRONG_LEVEL_LINES)}\n{whole}"
+
+
 def nothing(whole, random):
     return whole
 
@@ -236,10 +247,11 @@ class Tests:
         self.differences += 1
         print(f"{name}: {got} in the place of {want}", flush=True)
 
-    def compare(self, name, accepted, text, by_hand=None):
-        """Accepts a text, and tests the other one. What is told may be known by hand."""
+    def compare(self, name, accepted, text, by_hand=None, levels=(None, None)):
+        """Accepts a text, and tests the other one, each at its level. What is told may be known by hand."""
+        accepting, testing = ([NAME, *(["--level", level] if level else [])] for level in levels)
         try:
-            was = Side(NAME, accepted)
+            was = Side(NAME, accepted, levels[0])
             page = was.text
         except Refusal:
             self.counts["none accepted"] += 1
@@ -248,15 +260,15 @@ class Tests:
             return
         (self.folder / NAME).write_bytes(accepted)
         (self.folder / "a.accepted").unlink(missing_ok=True)
-        if (got := self.run("--update", NAME)) != (0, f"{NAME}: accepted\n".encode(), b""):
+        if (got := self.run("--update", *accepting)) != (0, f"{NAME}: accepted\n".encode(), b""):
             self.differ(name, got, "accepted")
         if (self.folder / "a.accepted").read_bytes() != page:
             self.differ(name, "another text", "the record")
         (self.folder / NAME).write_bytes(text)
-        status, out = told(NAME, accepted, text)
+        status, out = told(NAME, accepted, text, *levels)
         if by_hand and (status, out) != by_hand:
             self.differ(f"{name}, here", (status, out), by_hand)
-        if (got := self.run(NAME)) != (status, out, b""):
+        if (got := self.run(*testing)) != (status, out, b""):
             self.differ(name, got, (status, out))
         self.counts[kind_of(out)] += 1
 
@@ -273,7 +285,9 @@ def main(program, first, seeds):
             tests.compare("by hand", accepted.encode(), text.encode(), (status, f"{NAME}: {out}\n".encode()))
         for kind in KINDS:
             for name, seed, text in texts_of(kind, int(first), int(seeds)):
-                tests.compare(f"{kind}, {name}", text, edited(text, Random(f"{kind} {seed}")))
+                random, level = Random(f"{kind} {seed}"), level_of(f"{kind} {seed}")
+                levels = level, random.choice([level] * 9 + [None, *LEVELS])
+                tests.compare(f"{kind}, {name}", text, edited(text, random), levels=levels)
     for told_so, count in sorted(tests.counts.items()):
         print(f"{count:6} {told_so}")
     print(f"{sum(tests.counts.values())} specs, {tests.differences} differences")

@@ -35,6 +35,15 @@ BEGINS = [
     "BEGIN ISOLATION LEVEL SERIALIZABLE",
     "begin transaction isolation level read committed",
 ]
+# BEGINs of both levels, and those of a level that is refused where one is asked for.
+BEGINS_AT_LEVELS = ["BEGIN", "BEGIN ISOLATION LEVEL READ COMMITTED", "BEGIN ISOLATION LEVEL READ UNCOMMITTED"]
+BEGINS_AT_LEVELS += ["START TRANSACTION ISOLATION LEVEL SERIALIZABLE"]
+REPEATABLE_READ = ["BEGIN ISOLATION LEVEL REPEATABLE READ", "start transaction\n isolation level repeatable read"]
+# Lines that ask for a level, such as ask for none that there is, and comments that ask for nothing.
+LEVEL_LINES = ["# level: read-committed", "# level: read-committed", "# level: serializable", " \t#\tlevel:\tread-committed \f\r", "#level:serializable"]
+WRONG_LEVEL_LINES = ["# level:", "# level: snapshot", "# level: read committed", "# level: READ-COMMITTED", "# level: repeatable-read"]
+WRONG_LEVEL_LINES += ["# level: read-committed # or not", "# level: # level: serializable", "# level: é", "# level:\u00a0serializable"]
+NO_LEVEL_LINES = ["# Level: snapshot", "# # level: snapshot", "# no level: snapshot", "# level : snapshot", "# levels: snapshot", "\f# level: snapshot"]
 COMMITS = ["COMMIT", "END", "COMMIT WORK", "commit transaction"]
 ROLLBACKS = ["ROLLBACK", "ABORT", "rollback work"]
 SETTINGS = ["SET x = 1", "SET LOCAL a TO b", "SET SESSION a = 'q'", "SET local = 1", "SET LOCAL TO TO x"]
@@ -295,6 +304,48 @@ class Maker:
         """So few steps that one book has all their orders. Some sessions hold locks from the start."""
         return self.hindering_spec([2, 2, 3, 4], steps=FEW_STEPS, setups_lock=True)
 
+    # levels
+
+    def levelled_spec(self):
+        """Sessions that hinder one another, of few steps and several transactions. Their BEGINs name levels, and more SELECTs are plain."""
+        made = self.hindering_spec([2, 2, 3], steps=FEW_STEPS, setups_lock=self.some(0.3)).decode()
+        made = re.sub(r"(?i)\s+for\s+(update|share)(\s+nowait)?", lambda found: found[0] if self.some(0.5) else "", made)
+        made = re.sub(r"\b(COMMIT|ROLLBACK)\b", lambda found: found[0] + "; BEGIN" * self.some(0.3), made)
+        made = re.sub(r"(?<=step s\d_\d \{ )", lambda _found: self.one(["", "", "BEGIN; ", "COMMIT; ", "COMMIT; BEGIN; "]), made)
+        return re.sub(r"\bBEGIN\b", lambda _found: self.one(BEGINS_AT_LEVELS), made).encode()
+
+    def level_line(self):
+        return self.one(self.one([LEVEL_LINES] * 8 + [NO_LEVEL_LINES] * 2 + [WRONG_LEVEL_LINES]))
+
+    def with_level_lines(self, made):
+        """A text with comments that ask for a level, and such as look so: mostly one line, outside of its blocks. Each block of it ends on a line of its own."""
+        lines, text = made.splitlines(keepends=True), ""
+        places = [place for place in range(len(lines) + 1) if sum(line.count("{") - line.count("}") for line in lines[:place]) == 0]
+        taken = [self.one(places) for _ in range(self.one([0, 1, 1, 1, 1, 1, 2]))]
+        for place, line in enumerate([*lines, ""]):
+            text += "".join(f"{self.level_line()}\n" for _ in range(taken.count(place)))
+            # A comment behind other text, or behind the end of a block, asks for nothing.
+            is_ended = place + 1 in places and line.endswith("\n") and self.some(0.05)
+            text += f"{line[:-1]} {self.one(LEVEL_LINES + WRONG_LEVEL_LINES)}\n" if is_ended else line
+        return text
+
+    def levels_spec(self):
+        """Specs that ask for levels, or seem to, by lines outside of blocks, in blocks, in texts and names, and by BEGINs."""
+        made = self.levelled_spec().decode()
+        if self.some(0.1):
+            made = re.sub(r"(?:BEGIN|START TRANSACTION)(?: ISOLATION LEVEL [A-Z ]+[A-Z])?", lambda found: self.one([found[0], self.one(REPEATABLE_READ)]), made)
+        made = self.with_level_lines(made)
+        line = self.one(LEVEL_LINES + WRONG_LEVEL_LINES)
+        if self.some(0.1):
+            made = made.replace("'a'", f"'\n{line}\n'")
+        if self.some(0.1):
+            made = made.replace("session s0\n", f'session "{line.strip()}"\n'.replace("\t", " "))
+        if self.some(0.1):
+            made += f"teardown {{\n{line}\n}}\n"
+        if self.some(0.05):
+            made = self.one([made.rstrip("\n"), made.replace("step", f"{line} step", 1), made.replace("}", f"\n{line}\n}}", 1)])
+        return made.encode()
+
     # texts with something wrong in them
 
     def damaged(self, made):
@@ -465,6 +516,7 @@ KINDS = {
     "hindering": Maker.hindering_spec,
     "apart": Maker.apart_spec,
     "few": Maker.few_spec,
+    "levels": Maker.levels_spec,
     "wrong": Maker.wrong_spec,
     "misfits": Maker.misfit_spec,
     "limits": Maker.limit_spec,

@@ -10,33 +10,18 @@ transactions tell what they tell when run one after another in the order of comm
 whole promise. The last lines count what was run.
 """
 
-import re
 import sys
 from collections import Counter
 from itertools import combinations
 
 from compare import ended
-from generate import FEW_STEPS, Maker
+from generate import Maker
 from levels import bind_at
 from machine import GO_TOGETHER, LEVELS, READ_COMMITTED, SERIALIZABLE, Fault, World, cover, plan, start
 from refusal import Refusal
 from schedules import steps_by_session, taken
 from spec_file import read_spec
 from sql import Begin, Select
-
-BEGINS = ["BEGIN", "BEGIN ISOLATION LEVEL READ COMMITTED", "BEGIN ISOLATION LEVEL READ UNCOMMITTED", "START TRANSACTION ISOLATION LEVEL SERIALIZABLE"]
-
-
-# ---- specs
-
-
-def levelled_spec(maker):
-    """Sessions that hinder one another, of few steps and several transactions. Their BEGINs name levels, and more SELECTs are plain."""
-    made = maker.hindering_spec([2, 2, 3], steps=FEW_STEPS, setups_lock=maker.some(0.3)).decode()
-    made = re.sub(r"(?i)\s+for (update|share)( nowait)?", lambda found: found[0] if maker.some(0.5) else "", made)
-    made = re.sub(r"\b(COMMIT|ROLLBACK)\b", lambda found: found[0] + "; BEGIN" * maker.some(0.3), made)
-    made = re.sub(r"(?<=step s\d_\d \{ )", lambda _found: maker.one(["", "", "BEGIN; ", "COMMIT; ", "COMMIT; BEGIN; "]), made)
-    return re.sub(r"\bBEGIN\b", lambda _found: maker.one(BEGINS), made).encode()
 
 
 # ---- worlds that remember
@@ -231,7 +216,7 @@ def wrong_in_spec(spec, counts):
 def main(first, seeds):
     counts, faults = Counter(), 0
     for seed in range(first, first + seeds):
-        text = levelled_spec(Maker(seed))
+        text = Maker(seed).levelled_spec()
         try:
             specs = [bind_at(text, read_spec(text), level) for level in (None, *LEVELS)]
             found = [(spec.level or "no level", wrong) for spec in specs for wrong in wrong_in_spec(spec, counts)]

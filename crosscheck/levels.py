@@ -14,9 +14,9 @@ from checks import blocks
 from machine import LEVELS, NAMED_LEVELS, SERIALIZABLE
 from refusal import Refusal
 from spec_file import token_at
-from tokens import WHITE
 
-LINE = re.compile(rb"^[ \t]*(#)[ \t]*level:([^\n]*)", re.MULTILINE)
+LINE = re.compile(rb"^[ \t]*(#)[ \t\r]*level:([^\n]*)", re.MULTILINE)
+BLANKS = b" \t\r"
 NO_LEVEL, SECOND_LEVEL, NOT_MODELLED = 1, 2, 3
 WHY = {NO_LEVEL: "no such level", SECOND_LEVEL: "a second level", NOT_MODELLED: "REPEATABLE READ is not modelled"}
 
@@ -49,7 +49,7 @@ def level_lines(text):
     outside = [*between_tokens(text)]
     for found in LINE.finditer(text):
         if any(start <= found.start(1) < end for start, end in outside):
-            yield line_of(text, found.start(1)), found[2].strip(WHITE).decode()
+            yield line_of(text, found.start(1)), found[2].strip(BLANKS).decode()
 
 
 def level_in(text):

@@ -28,6 +28,8 @@ WORDS += [["one", "first.spec", "0"], ["one", "deadlock.spec", "5"], ["one", "lo
 BOOKS = {"low.book": "run deadlock.spec 0 9", "high.book": "run deadlock.spec 9 20 --every", "all.book": "join low.book high.book"}
 BOOKS["other.book"] = "run lost_update.spec"
 WRONG = b"session a\n\tstep s {}\n\tstep {}\n"
+# A spec with two lines that ask for a level, and a level that is not modelled.
+LEVELS = b"# level: serializable\nsession a step s { BEGIN ISOLATION LEVEL REPEATABLE READ; }\n# level: serializable\n"
 OF_BOOKS = ["rank deadlock.spec a1 b1 a2", "rank deadlock.spec a2 a1", "order deadlock.spec 3", "order wrong.spec 0"]
 OF_BOOKS += ["show deadlock.spec 5", "show deadlock.spec a1 b1 a2 b2 a3 b3 --json", "show deadlock.spec 20", "show wrong.spec 0"]
 OF_BOOKS += ["check deadlock.spec", "check wrong.spec", "count deadlock.spec", "run deadlock.spec 0 20", "run deadlock.spec 0 21"]
@@ -45,6 +47,8 @@ OF_BOOKS += ["classes deadlock.spec --json --by-result --brief", "classes deadlo
 OF_BOOKS += ["classes lost_update.spec --html", "classes deadlock.spec --html --deadlock=b --expect 'SELECT v FROM t WHERE id = 2' 42"]
 OF_BOOKS += ["classes --book all.book", "classes --book high.book low.book --ranks --outcomes", "classes --book low.book --json --ranks"]
 OF_BOOKS += ["classes --book all.book clash.book", "classes --book all.book wrong.spec"]
+OF_BOOKS += ["show lost_update.spec 1 --level read-committed", "classes lost_update.spec --level read-committed", "classes wrong.spec --level serializable"]
+OF_BOOKS += ["classes levels.spec", "show levels.spec 0 --level serializable", "test levels.spec --level read-committed"]
 OF_BOOKS += ["test", "test all.book --workers 0", "test - -"]
 
 
@@ -58,6 +62,7 @@ def of_another_rank(book):
 def make_books(folder):
     """Puts into the folder what the commands over books find there."""
     Path(folder, "wrong.spec").write_bytes(WRONG)
+    Path(folder, "levels.spec").write_bytes(LEVELS)
     for name in ("deadlock.spec", "lost_update.spec"):
         Path(folder, name).write_bytes((TOP / "examples" / name).read_bytes())
     for name, words in BOOKS.items():

@@ -35,10 +35,10 @@ class Result:
 
 
 class Record:
-    """The results of the orders that clients can send, from a file's name and text. Raises a Refusal where there are none."""
+    """The results of the orders that clients can send, from a file's name and text, at a level or at that of the text. Raises a Refusal where there are none."""
 
-    def __init__(self, name, text):
-        self.name, self.page = name, Asking(text).page(name, request_of([BY_RESULT]))
+    def __init__(self, name, text, level=None):
+        self.name, self.page = name, Asking(text, level).page(name, request_of([BY_RESULT]))
         self.orders = self.page.orders
         self.results = [self.result_of(one) for one in self.page.rows[:MOST_RECORDED]]
         self.left_out = len(self.page.rows) - len(self.results)

@@ -28,6 +28,7 @@ FAULTS = [
     (3, f"(?P<by>sql) error [1-7] at (?P<place>{N})", NAMED, OF_SPECS),
     (3, f"(?P<by>bind) error [2-8] at (?P<place>{N})", NAMED, OF_SPECS),
     (3, f"start error [1-3] at {N}", NAMED, {"one", "show", "classes", "run"}),
+    (3, f"(?:no such level|a second level|REPEATABLE READ is not modelled) \\(line {N}\\)", NAMED, {"show", "classes"}),
     (3, "rank out of range", NAMED, {"one", "order", "show"}),
     (3, f"no step {NAME}", NAMED, {"rank", "show"}),
     (3, f"step {NAME} (?:twice|left out|before {NAME})", NAMED, {"rank", "show"}),
@@ -50,8 +51,9 @@ FAULTS = [
 ]
 LEVELS = rb"(?:locking: strict two-phase locking; isolation levels? \(lines? %(n)s(?:, %(n)s)*\) (?:has|have) no effect\n)?"
 FAULTS = [(status, re.compile(text), is_named, commands) for status, text, is_named, commands in FAULTS]
+AT_LEVEL = rb"(?:isolation level: (?:READ COMMITTED|SERIALIZABLE)(?:; (?:READ COMMITTED|SERIALIZABLE) \(lines? %(n)s(?:, %(n)s)*\))?\n)?"
 UNSEEN = rb"(?:Shares have 95%% intervals by Wilson\. About <?[\d.]+%% of such orders are in classes not seen \(Good and Turing\)\.\n)?"
-CLASSES_HEAD = rb"[^\n]+: (?:%(m)s of )?%(m)s orders? in %(m)s (?:class(?:es)?|results?)(?: \([^\n]*\))?\n" + LEVELS + UNSEEN
+CLASSES_HEAD = rb"[^\n]+: (?:%(m)s of )?%(m)s orders? in %(m)s (?:class(?:es)?|results?)(?: \([^\n]*\))?\n" + LEVELS + AT_LEVEL + UNSEEN
 # An object of classes, and one with expectations; what stands before it and behind it on a page.
 OBJECT, EXPECTING = rb'\{"format":2,[^\n]*\}', rb'\{"format":2,[^\n]*"expectations":\[\{[^\n]*\}'
 PAGE_FRONT, PAGE_BACK = rb'<!doctype html>\n.+<script type="application/json" id="classes">', rb"</script><script.+</html>\n"
@@ -61,7 +63,7 @@ BOOK = rb'\{"facts":\[.*\],"format":2,"outcomes":\[.*\],"spec":".*"\}\n'
 DIFFERING = (b"orders", b"letters", b"results left out", b"gone", b"new", b"other numbers")
 DIFFERS = rb"differs: results gone %(n)s, new %(n)s, with other numbers %(n)s" + b"".join(rb"(?:\n  " + part + rb"(?:\n    [^\n]+)+)?" for part in DIFFERING)
 NO_RESULT = rb"(?:only the head of the record differs|differs, and what is accepted is no record of this version)"
-REFUSED = rb"(?:(?:spec error [1-9]|sql error [1-7]|bind error [2-8]|start error [1-3]) at %(n)s|too many different states: more than %(n)s; classes --sample N looks at random orders)"
+REFUSED = rb"(?:(?:spec error [1-9]|sql error [1-7]|bind error [2-8]|start error [1-3]) at %(n)s|too many different states: more than %(n)s; classes --sample N looks at random orders|(?:no such level|a second level|REPEATABLE READ is not modelled) \(line %(n)s\))"
 IDLE = [b"isolation level", b"SET", b"NOT NULL", b"teardown", b"marker"]
 # What stands on standard output where no fault is told.
 ANSWERS = {

@@ -159,7 +159,11 @@ class Soak:
         self.hold_same([(ran.status, ran.error) for ran in (one, run)], "one and run tell different starts", one, run)
         return int(count.out), one.status == 0
 
-    def orders(self, path, number, starts):
+    def starts_at_its_level(self, path, text, starts):
+        """Whether it starts where a line of it may ask for a level: setups that read may wait then or not, and a level may be refused."""
+        return starts if b"level:" not in text else self.run("show", path, 0).status == 0
+
+    def orders(self, path, number, starts, is_shown):
         """Orders of a spec, at the ends, anywhere and past the end, and ranges that there are not."""
         for rank in {0, number - 1, self.random.randrange(number)}:
             self.hold((ran := self.run("one", path, rank)).status == (0 if starts else 3), "an order is not there", ran)
@@ -170,7 +174,7 @@ class Soak:
             again = self.run("rank", path, "--", *names)
             self.hold(again.status == 0 and int(again.out) <= rank, "an order has no rank, or a later one", ran, again)
             self.run("rank", path, "--", *self.random.sample(names, self.random.randint(1, len(names))))
-            self.shows(path, rank, names, int(again.out), starts)
+            self.shows(path, rank, names, int(again.out), is_shown)
         for rank in self.random.sample([number, number + 1, 2**32, 2**63, 2**64 - 1], 2):
             self.hold(rank < number or (ran := self.run("one", path, rank)).status == 3, "an order is there that is none", ran)
         for ends in compare_files.no_ranges(self.random, number):
@@ -330,10 +334,11 @@ class Soak:
         faults = self.run(*self.random.choice(NO_COMMANDS).split())
         self.hold(faults.status == 2, "faults of a command line are none", faults)
         if number is not None:
-            self.orders(path, number, starts)
+            is_shown = self.starts_at_its_level(path, text, starts)
+            self.orders(path, number, starts, is_shown)
             if number <= MOST_CLASSED:
-                self.classes(path, number, starts)
-                test(self, path, starts)
+                self.classes(path, number, is_shown)
+                test(self, path, is_shown)
         if not starts:
             return
         whole = self.books(path, number)

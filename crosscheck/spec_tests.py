@@ -14,8 +14,8 @@ MOST_TOLD = 5
 class Side:
     """The record of a spec. Raises a Refusal where there is none."""
 
-    def __init__(self, name, text):
-        self.name, self.record = name, Record(name, text)
+    def __init__(self, name, text, level=None):
+        self.name, self.record = name, Record(name, text, level)
         self.orders, self.results = self.record.orders, self.record.results
 
     @cached_property
@@ -54,11 +54,11 @@ def told_of_results(was, now):
     yield from some("other numbers", [[f"{word}: {one.orders}, first: {one.first}" for word, one in zip(("was", "is"), pair)] for pair in changed])
 
 
-def told(name, accepted, text):
-    """The status, and what is told of the spec with this name and text, which was accepted as another text."""
-    was = Side(name, accepted)
+def told(name, accepted, text, accepted_at=None, level=None):
+    """The status, and what is told of the spec with this name and text, which was accepted as another text. Each may be asked for at a level."""
+    was = Side(name, accepted, accepted_at)
     try:
-        now = Side(name, text)
+        now = Side(name, text, level)
         now.text
     except Refusal as refusal:
         return 3, refusal.line(name).removeprefix(b"isofarm: ")

@@ -82,10 +82,17 @@ TOP = Path(__file__).resolve().parent.parent
 # Of the bookings at READ COMMITTED. The kiosk's UPDATE is sent behind the web's COMMIT: its SELECT has 4 places, 3 of them before the COMMIT. Or it is sent
 # between the web's SELECT and COMMIT, and waits: its SELECT has 2 + 3 places. Or it is sent before the web's SELECT, which waits or does not: 1 + 1. In
 # 3 + 5 of these 11 both see that the seat is free. Where both SELECTs lock, the second one is sent behind the first one's first, second or third step.
+#
+# Of the skewed reads b has one step, which has 3 places among the two of a, and 4 among three. It is seen by the second SELECT alone where it stands between
+# both. In a block that locks it waits there, and outside of one it does not. So it is with the row that comes between two SELECTs of all rows.
 LEVEL_FIGURES = {
     "examples/conversion.spec": ((6, 4, 0), (6, 0, 4)),
     "examples/lost_update_mended.spec": ((4, 0, 1), (4, 0, 0)),
     "examples/write_skew.spec": ((6, 4, 0), (6, 0, 4)),
+    "examples/lost_update.spec": ((4, 0, 0), (4, 0, 0)),
+    "examples/read_skew.spec": ((3, 0, 1), (3, 0, 1)),
+    "examples/read_skew_refused.spec": ((4, 0, 0), (4, 0, 1)),
+    "examples/phantom.spec": ((3, 0, 0), (3, 0, 1)),
     "crosscheck/levels/write_skew_mended.spec": ((4, 0, 0), (4, 0, 0)),
     "crosscheck/levels/double_booking.spec": ((6, 0, 0), (11, 0, 8)),
     "crosscheck/levels/double_booking_mended.spec": ((6, 0, 0), (6, 0, 0)),

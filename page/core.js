@@ -8,11 +8,12 @@
 //
 // A spec is bytes (Uint8Array), a rank a BigInt, a name a string. Each call answers at once. A fault is an object {fault, kind, place}, where `fault` is
 // one of the words of CORE_FAULTS; `kind` and `place` are numbers, as in the program's fault lines, or 0. Where the orders lead to too many different states,
-// `fault` is 'states' and `place` is how many were noted.
+// `fault` is 'states' and `place` is how many were noted. Where the spec says something wrong of levels, `fault` is 'level', `kind` is 1 for a level that there
+// is not, 2 for a second line and 3 for REPEATABLE READ, and `place` is the number of the line.
 // After a trap, as of a stack that is full, a call answers {fault: 'trap'}, as each later one does: `core.isSpent` is true, and another core is to be made.
 'use strict';
 
-const CORE_FAULTS = [null, 'spec', 'sql', 'bind', 'range', 'start', 'memory', 'room', 'name', 'states', 'trap'];
+const CORE_FAULTS = [null, 'spec', 'sql', 'bind', 'range', 'start', 'memory', 'room', 'name', 'states', 'level', 'trap'];
 const CORE_MEMORY = 6, CORE_ROOM = 7, CORE_TRAP = 10;
 // So many bytes of a spec are read at most, as the program does it: one more than a spec may have.
 const CORE_SPEC = 65537;

@@ -189,14 +189,22 @@ function onClassKey(event) {
 
 // Each expectation, in how many orders it holds, and the class of the first order in which it fails; and levels.
 function drawExpected() {
-  const lines = data.level_lines;
-  $('expected').hidden = !data.expectations.length && !lines.length;
+  const asked = data.levels, levels = levelText(asked, asked ? asked.other_lines : data.level_lines);
+  $('expected').hidden = !data.expectations.length && !levels;
   $('expected').replaceChildren(...data.expectations.map(one => {
     const at = one.first === null ? -1 : data.classes.findIndex(of => of.first_rank === one.first);
     return h('p', null, one.first === null ? pill('good', 'holds') : pill('fail', 'failed'), ' ', code(`${one.select} = ${one.values.join(', ')}`),
       ` holds in ${number(one.holds_in)} of ${plural(data.asked, 'order')}`,
       at < 0 ? '' : [`; first fails at rank ${one.first}, in `, h('button', { type: 'button', onclick: () => pick(at, true) }, `${classWord()} ${at + 1}`)]);
-  }), lines.length ? h('p', { class: 'muted' }, `Isolation levels have no effect (line${lines[1] ? 's' : ''} ${lines.join(', ')}).`) : '');
+  }), levels ? h('p', { class: 'muted' }, levels) : '');
+}
+
+// Under which level all stands, or that levels have no effect, with the lines of the file.
+function levelText(asked, lines) {
+  const told = lines[0] ? ` (line${lines[1] ? 's' : ''} ${lines.join(', ')})` : '', names = ['READ COMMITTED', 'SERIALIZABLE'];
+  if (!asked) return told && `Isolation levels have no effect${told}.`;
+  if (asked.default === 'serializable') names.reverse();
+  return `Isolation level: ${names[0]}${told && `; ${names[1]}${told}`}.`;
 }
 
 /* the moments of an order */

@@ -6,6 +6,7 @@
   const REFUSED = {
     memory: 'There is not enough memory for this text in the page. A shorter one may still be run.',
     trap: 'The core has stopped at this text, and is made anew for the next one.',
+    level: ['', 'There is no such level', 'A second line asks for a level', 'REPEATABLE READ is not modelled where a level is asked for'],
     start: ['', 'A main setup fails', 'The setup of a session fails', 'The setup of a session has to wait'],
   };
   const examples = JSON.parse($('given').textContent), encoder = new TextEncoder(), decoder = new TextDecoder();
@@ -60,6 +61,7 @@
 
   function refusedText({ fault, kind, place }) {
     if (fault === 'start') return `${REFUSED.start[kind]} (number ${place} of the file, from 0), so no order can be run.`;
+    if (fault === 'level') return `${REFUSED.level[kind]} (line ${place}).`;
     if (fault === 'states') return `The orders lead to too many different states: more than ${number(place)}.`;
     return REFUSED[fault] || `The text is refused: ${fault}.`;
   }

@@ -12,8 +12,8 @@ _isofarm() {
     count) words="-h --help" ;;
     rank) words="-h --help" ;;
     order) words="-h --help" ;;
-    show) words="--json -h --help" ;;
-    classes) words="--all-orders --book --waits --no-waits --deadlock --no-deadlock --error --no-error --stuck --no-stuck --anomaly --no-anomaly --not-sent --no-not-sent --by-result --expect --query --final-rows --outcomes --ranks --brief --json --html --progress --memory --sample --seed -h --help" ;;
+    show) words="--json --level -h --help" ;;
+    classes) words="--all-orders --level --book --waits --no-waits --deadlock --no-deadlock --error --no-error --stuck --no-stuck --anomaly --no-anomaly --not-sent --no-not-sent --by-result --expect --query --final-rows --outcomes --ranks --brief --json --html --progress --memory --sample --seed -h --help" ;;
     run) words="--every --workers --progress -h --help" ;;
     join) words="-h --help" ;;
     missing) words="--lines -h --help" ;;
@@ -21,7 +21,7 @@ _isofarm() {
     report) words="-h --help" ;;
     audit) words="-h --help" ;;
     judge) words="--show -h --help" ;;
-    test) words="--update --junit --workers -h --help" ;;
+    test) words="--update --junit --workers --level -h --help" ;;
     help) COMPREPLY=($(compgen -W "check one count rank order show classes run join missing holds report audit judge test" -- "$word")); return ;;
   esac
   # What is no flag is completed as a path.

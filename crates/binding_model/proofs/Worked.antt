@@ -13,8 +13,14 @@ use Rattle.sql_grammar.specs.declared.expression.Literal.TheVariants.{Whole}
 use Rattle.sql_grammar.specs.declared.statement.EndWord.TheVariants.{Abort}
 use Rattle.sql_grammar.specs.declared.statement.Start.TheVariants.{StartWords}
 use Rattle.sql_grammar.specs.declared.statement.TablePart.TheVariants.{Key}
+use Rattle.sql_grammar.specs.declared.statement.Level.TheVariants.{Read}
+use Rattle.sql_grammar.specs.declared.statement.LockedFor.TheVariants.{Share as OfShare}
+use Rattle.sql_grammar.specs.declared.statement.ReadWord.TheVariants.{Uncommitted}
+use Rattle.sql_grammar.specs.declared.statement.RowLock.{RowLock}
+use Rattle.bound_statements.specs.Levels.{asked, levelled}
 use Rattle.bound_statements.specs.Plan.{Request, request, plan}
 use Rattle.bound_statements.specs.declared.statement.Bound.TheVariants.{Begin, Rollback}
+use Rattle.bound_statements.specs.declared.statement.Level.TheVariants.{Committed}
 use Rattle.binding_model.specs.declared.error.BindErrorKind.TheVariants.{Sql, UnknownTable, UnknownColumn, KeyChanged, WrongCount}
 use Rattle.binding_model.specs.declared.tables.ColumnType.TheVariants.{Number}
 use Rattle.binding_model.specs.declared.tables.Table.{Table}
@@ -44,6 +50,13 @@ select items name c = tree.Selects (record { items = items; table = name; where'
 
 plan_of : tree.Statement → Bind (List Request)
 plan_of s = statement tables 7 s >>= λ b. Ok (plan b)
+
+-- what it asks for where it is at READ COMMITTED
+asked_of : tree.Statement → Bind (List Request)
+asked_of s = statement tables 7 s >>= λ b. Ok (asked (levelled (Some Committed) b))
+
+abbrev for_share : RowLock
+for_share = record { locked_for = OfShare; nowait = false }
 
 abbrev id_is_two : tree.Atom
 id_is_two = Compares (column (codes "id")) Equal (number 2)
@@ -103,8 +116,21 @@ unfolding tables plan_of
 keys_in_order = refl
 
 -- START TRANSACTION
-begins : statement tables 7 (tree.Begin StartWords None) ≡ Ok Begin
+begins : statement tables 7 (tree.Begin StartWords None) ≡ Ok (Begin None)
 begins = refl
+
+-- START TRANSACTION ISOLATION LEVEL READ UNCOMMITTED
+begins_at : statement tables 7 (tree.Begin StartWords (Some (Read Uncommitted))) ≡ Ok (Begin (Some Committed))
+begins_at = refl
+
+-- SELECT * FROM t at READ COMMITTED, and the same FOR SHARE
+plain : asked_of (tree.Selects (record { items = tree.AllColumns; table = codes "t"; where' = None; order = None; lock = None })) ≡ Ok []
+unfolding tables asked_of
+plain = refl
+
+shared : asked_of (tree.Selects (record { items = tree.AllColumns; table = codes "t"; where' = None; order = None; lock = Some for_share })) ≡ whole_table
+unfolding tables asked_of
+shared = refl
 
 -- ABORT
 aborts : statement tables 7 (tree.Ends Abort None) ≡ Ok Rollback

@@ -14,6 +14,8 @@ use Rattle.sql_grammar.specs.declared.statement.Direction.{Direction}
 use Rattle.sql_grammar.specs.declared.statement.Direction.TheVariants.{Ascending, Descending}
 use Rattle.sql_grammar.specs.declared.statement.EndWord.{EndWord}
 use Rattle.sql_grammar.specs.declared.statement.EndWord.TheVariants as word
+use Rattle.sql_grammar.specs.declared.statement.Level.{Level as WrittenLevel}
+use Rattle.sql_grammar.specs.declared.statement.Level.TheVariants as written
 use Rattle.sql_grammar.specs.declared.statement.LockMode.{LockMode}
 use Rattle.sql_grammar.specs.declared.statement.LockMode.TheVariants.{Access, RowLevel, Shared, Exclusively}
 use Rattle.sql_grammar.specs.declared.statement.LockedFor.{LockedFor}
@@ -32,6 +34,8 @@ use Rattle.bound_statements.specs.declared.statement.Order.{Order}
 use Rattle.bound_statements.specs.declared.statement.Order.TheVariants.{Rises, Falls}
 use Rattle.bound_statements.specs.declared.statement.Output.{Output}
 use Rattle.bound_statements.specs.declared.statement.Output.TheVariants.{Columns, Aggregates}
+use Rattle.bound_statements.specs.declared.statement.Level.{Level}
+use Rattle.bound_statements.specs.declared.statement.Level.TheVariants.{Serializable, Committed}
 use Rattle.bound_statements.specs.declared.statement.RowLock.{RowLock}
 use Rattle.bound_statements.specs.declared.statement.SortKey.{SortKey}
 use Rattle.binding_model.specs.declared.error.BindErrorKind.TheVariants.{Sql, TypeMismatch, KeyChanged, WrongCount}
@@ -120,10 +124,10 @@ abbrev pub is_update : LockedFor → Bool
 is_update purpose.Update = true
 is_update purpose.Share = false
 
--- FOR SHARE locks the rows as a select does that says nothing, and NOWAIT stays
+-- FOR SHARE locks the rows as a select does that says nothing, at each level, and NOWAIT stays
 abbrev pub lock_of : Option WrittenLock → RowLock
-lock_of None = record { exclusive = false; nowait = false }
-lock_of (Some l) = record { exclusive = is_update l.locked_for; nowait = l.nowait }
+lock_of None = record { exclusive = false; nowait = false; level = Some Serializable }
+lock_of (Some l) = record { exclusive = is_update l.locked_for; nowait = l.nowait; level = None }
 
 abbrev pub select_rows : Table → ℕ → ℕ → Output → List SortKey → RowLock → Condition → Bind Bound
 select_rows t at n out by lock c =
@@ -184,6 +188,13 @@ end_of word.End = Commit
 end_of word.Rollback = Rollback
 end_of word.Abort = Rollback
 
+-- the level that a BEGIN names: READ UNCOMMITTED is READ COMMITTED, and REPEATABLE READ is SERIALIZABLE
+abbrev pub level_of : Option WrittenLevel → Option Level
+level_of None = None
+level_of (Some written.Serializable) = Some Serializable
+level_of (Some written.RepeatableRead) = Some Serializable
+level_of (Some (written.Read word)) = Some Committed
+
 -- a statement that is no declaration
 abbrev pub statement : List Table → ℕ → tree.Statement → Bind Bound
 statement tables at (tree.CreateTable n ps) = refuse at (Sql NotHere)
@@ -191,7 +202,7 @@ statement tables at (tree.Insert n names rows) = table tables at n >>= λ x. ins
 statement tables at (tree.Selects s) = table tables at s.table >>= λ x. select x.1 at x.0 s
 statement tables at (tree.Update n as' c) = table tables at n >>= λ x. update x.1 at x.0 as' c
 statement tables at (tree.Delete n c) = table tables at n >>= λ x. delete x.1 at x.0 c
-statement tables at (tree.Begin start level) = Ok Begin
+statement tables at (tree.Begin start level) = Ok (Begin (level_of level))
 statement tables at (tree.Ends end noise) = Ok (end_of end)
 statement tables at (tree.Lock noise n mode nowait) = table tables at n >>= λ x. Ok (Lock x.0 (mode_of mode) nowait)
 statement tables at (tree.Set setting) = Ok SetVariable

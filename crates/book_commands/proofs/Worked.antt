@@ -1,5 +1,5 @@
 -- What is shown beneath a verdict, by hand.
-use Rattle.std.specs.Prelude.{◌≡◌, ◌<◌, refl, ℕ, zero, suc, List, [], ◌∷◌, codes}
+use Rattle.std.specs.Prelude.{◌≡◌, ◌<◌, refl, ℕ, zero, suc, List, [], ◌∷◌, codes, None}
 use Rattle.std.specs.Fmt.{digits}
 use Rattle.std.proofs.Common.{inl, inr, arith}
 use Rattle.bound_specs.specs.Spec.{SpecFile}
@@ -35,6 +35,7 @@ two_lines = record {
   text = [];
   session_names = codes "a" ∷ codes "b" ∷ [];
   step_names = codes "a1" ∷ codes "of b" ∷ [];
+  asked = None;
   run = record {
     sessions = 2;
     steps = record { session = 0; statements = [] } ∷ record { session = 1; statements = [] } ∷ [];

@@ -79,7 +79,8 @@ fn book_of_parts(alloc: Global, guess: &Guess, parts: Parts) -> Option<Book>
 
 /// The book of facts one by one.
 fn facts_book(alloc: Global, guess: &Guess, builder: Builder) -> Option<Book>
-    requires { (d : Data) × IsFactsPart guess.now (Facts.Each builder) d }
+    requires guess { IsGuess guess.now }
+    requires facts { (d : Data) × IsFactsPart guess.now (Facts.Each builder) d }
     ensures { IfSome result (λ book. (book.file ≡ guess.now.spec) × (book.facts ≡ builder.facts)) }
 {
     match Book::of_facts(alloc, &guess.spec, builder) {
@@ -95,6 +96,7 @@ fn runs_book(
     outcomes: CompactOutcomes,
     runs: Vec<Run>,
 ) -> Option<Book>
+    requires guess { IsGuess guess.now }
     requires size { length outcomes ≡ guess.now.outcomes }
     requires outcomes { (d : Data) × IsOutcomesPart guess.now outcomes d }
     requires runs { (d : Data) × IsFactsPart guess.now (Facts.Runs runs) d }

@@ -1,7 +1,7 @@
 //! The book of bytes that were written of one. They are read in one pass, without a JSON value, as what the writer lays out; and what
 //! comes of that is a book only if its text is these bytes.
 
-ghost use Rattle.std.specs.Prelude.{Ok, IfSome};
+ghost use Rattle.std.specs.Prelude.{◌≡◌, None, Ok, IfSome};
 ghost use Rattle.book_format.specs.ReadingBooks.{IsBookFile};
 
 use crate::cursor::Cursor;
@@ -32,7 +32,10 @@ pub(crate) fn written_book(alloc: Global, bytes: &[u8]) -> Option<Book>
     let runs = runs_at(alloc, &mut cursor)?;
     let outcomes = outcomes_text(&mut cursor)?;
     let text = spec_at(alloc, &mut cursor)?;
-    let spec = spec_of_text(alloc, text.as_str()).ok()?;
+    let spec = match spec_of_text(alloc, text.as_str()) {
+        Ok(spec) => spec,
+        Err(_) => return None,
+    };
     let listed = listed_in(alloc, &spec, &mut Cursor::new(outcomes))?;
     book_of_text(alloc, bytes, listed, runs).ok()?
 }
@@ -98,8 +101,10 @@ fn outcomes_text<'a>(cursor: &mut Cursor<'a>) -> Option<&'a [u8]> {
     cursor.up_to_last(SPEC)
 }
 
-/// The outcomes of the array that is next, which are those of a spec.
-fn listed_in<'a>(alloc: Global, spec: &'a Spec, cursor: &mut Cursor<'_>) -> Option<Listed<'a>> {
+/// The outcomes of the array that is next, which are those of a spec for which levels are not asked for.
+fn listed_in<'a>(alloc: Global, spec: &'a Spec, cursor: &mut Cursor<'_>) -> Option<Listed<'a>>
+    requires unasked { spec.now.asked ≡ None }
+{
     if !cursor.passes(b"[") {
         return None;
     }

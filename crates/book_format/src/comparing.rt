@@ -1,6 +1,6 @@
 //! The book of a text that is written of it, without a look at the text's JSON value.
 
-ghost use Rattle.std.specs.Prelude.{◌≡◌, ◌+◌, ◌<◌, ◌≤◌, ◌++◌, length, take, Ok, IfOk, IfSome, IsTrue, IsUtf8, Some};
+ghost use Rattle.std.specs.Prelude.{◌≡◌, ◌+◌, ◌<◌, ◌≤◌, ◌++◌, length, take, None, Ok, IfOk, IfSome, IsTrue, IsUtf8, Some};
 ghost use Rattle.book_format.specs.declared.pieces.TheConstants.{MAX_TEXT};
 ghost use Rattle.book_format.specs.Pieces.{parts_text};
 ghost use Rattle.book_format.specs.Reading.{IsListed};
@@ -41,7 +41,8 @@ fn book_of_listed(
     outcomes: CompactOutcomes,
     runs: Vec<Run>,
 ) -> Result<Option<Book>, AllocError>
-    requires { IsListed spec.now.run outcomes }
+    requires unasked { spec.now.asked ≡ None }
+    requires listed { IsListed spec.now.run outcomes }
     ensures { IfOk result (λ book. IfSome book (λ book. IsBookFile bytes.now (Ok book))) }
 {
     spec.known();

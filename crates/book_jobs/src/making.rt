@@ -1,6 +1,6 @@
 //! Making jobs.
 
-ghost use Rattle.std.specs.Prelude.{◌≡◌, ◌<◌, IfOk, IfErr, OnOk, MatchOption, length, [], ◌∷◌};
+ghost use Rattle.std.specs.Prelude.{◌≡◌, ◌<◌, None, IfOk, IfErr, OnOk, MatchOption, length, [], ◌∷◌};
 ghost use Rattle.machine_model.specs.Start.{start};
 ghost use Rattle.session_machine.specs.Running.{IsNotRunBy};
 ghost use Rattle.rank_facts.specs.Shards.{IsShardOf};
@@ -17,8 +17,9 @@ use shard_books::of_shard;
 use std::alloc::Global;
 
 /// The facts of all shards that a job runs, each under its flag. A job of too many levels is refused first, then the first shard from
-/// the left that is not one of the spec, then a spec that does not start.
+/// the left that is not one of the spec, then a spec that does not start. Levels are not asked for.
 pub fn make(alloc: Global, spec: &Spec, job: &Job) -> Result<Book, RunError>
+    requires unasked { spec.now.asked ≡ None }
     ensures refused { IfErr result (IsNotMade spec.now.run job.now) }
     ensures lawful { OnOk result (IsJobOf spec.now.run job.now) }
     ensures started { OnOk result (Starts spec.now.run) }
@@ -68,6 +69,7 @@ fn refusal(spec: &Spec, shard: Shard) -> Option<RunError>
 /// The facts of shards of the spec. Their books are joined by halves, so that a run is merged once for each halving and not once for each
 /// shard, and a list of n shards is halved at most log n times.
 fn made(alloc: Global, spec: &Spec, leaves: &[Leaf]) -> Result<Book, RunError>
+    requires unasked { spec.now.asked ≡ None }
     requires lawful { AllLawful spec.now.run leaves.now }
     ensures refused { IfErr result (λ error. IsNotRunBy error (start spec.now.run)) }
     ensures started { OnOk result (0 < length leaves.now → Starts spec.now.run) }
@@ -88,6 +90,7 @@ fn made(alloc: Global, spec: &Spec, leaves: &[Leaf]) -> Result<Book, RunError>
 
 /// The facts of one shard of the spec.
 fn of_leaf(alloc: Global, spec: &Spec, leaf: Leaf) -> Result<Book, RunError>
+    requires unasked { spec.now.asked ≡ None }
     requires lawful { IsShardOf spec.now.run leaf.shard }
     ensures refused { IfErr result (λ error. IsNotRunBy error (start spec.now.run)) }
     ensures started { OnOk result (Starts spec.now.run) }

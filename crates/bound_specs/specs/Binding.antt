@@ -7,10 +7,12 @@ use Rattle.sql_grammar.specs.Grammar.{Fault}
 use Rattle.sql_grammar.specs.Lexing.{token_list}
 use Rattle.sql_grammar.specs.Text.{StatementAt, statements_from}
 use Rattle.bound_statements.specs.declared.statement.Bound.{Bound}
+use Rattle.bound_statements.specs.declared.statement.Level.{Level}
 use Rattle.binding_model.specs.declared.error.BindErrorKind.TheVariants.{Sql, Shape}
 use Rattle.binding_model.specs.declared.tables.Table.{Table}
 use Rattle.bound_specs.specs.Lines.{step_names, session_names, orders_of}
 use Rattle.binding_model.specs.Refusals.{Bind, ◌>>=◌, refuse, each}
+use Rattle.bound_specs.specs.Levels.{levelled_file}
 use Rattle.bound_specs.specs.Spec.{Step, SpecFile}
 use Rattle.binding_model.specs.Statements.{statement}
 use Rattle.binding_model.specs.Tables.{create}
@@ -97,11 +99,13 @@ abbrev pub all_steps : ℕ → List BoundSession → List Step
 all_steps i [] = []
 all_steps i (s ∷ ss) = numbered i s.steps ++ all_steps (suc i) ss
 
+-- as it is written: what is asked for comes behind it
 abbrev pub made_file : List ℕ → SpecTree → List (List ℕ) → List (List Bound) → List BoundSession → SpecFile
 made_file text tree lines setups sessions = record {
   text = text;
   session_names = session_names tree.sessions;
   step_names = step_names tree.sessions;
+  asked = None;
   run = record {
     sessions = length tree.sessions;
     steps = all_steps 0 sessions;
@@ -115,15 +119,29 @@ abbrev pub shaped : Option (List (List ℕ)) → Bind (List (List ℕ))
 shaped None = refuse 0 Shape
 shaped (Some lines) = Ok lines
 
--- a file of this text: its blocks are bound in the order of the file, the main setups, and then each session's setup and steps
-abbrev pub bound_file : List ℕ → SpecTree → Bind SpecFile
-bound_file text tree = do
+-- a file of this text as it is written: its blocks are bound in the order of the file, the main setups, and then each session's setup and steps
+abbrev pub written_file : List ℕ → SpecTree → Bind SpecFile
+written_file text tree = do
   lines ← shaped (orders_of tree)
   main ← declared main_setup [] tree.front.setups
   sessions ← each (session main.0) tree.sessions
   Ok (made_file text tree lines main.1 sessions)
 
--- the text is that of a spec file, which binds to this
+-- the file where this level is asked for, or none
+abbrev pub bound_at : Option Level → List ℕ → SpecTree → Bind SpecFile
+bound_at asked text tree = written_file text tree >>= λ file. Ok (levelled_file asked file)
+
+-- the file where levels are not asked for
+abbrev pub bound_file : List ℕ → SpecTree → Bind SpecFile
+bound_file text tree = bound_at None text tree
+
+-- the text is that of a spec file, which binds to this where its level is asked for, or none
+pub record IsFileAt (text : List ℕ) (file : SpecFile) : Type 0 where
+  pub tree : SpecTree
+  pub is_spec : IsSpec text tree
+  pub is_bound : bound_at file.asked text tree ≡ Ok file
+
+-- the text is that of a spec file, which binds to this where levels are not asked for
 pub record IsFileOf (text : List ℕ) (file : SpecFile) : Type 0 where
   pub tree : SpecTree
   pub is_spec : IsSpec text tree

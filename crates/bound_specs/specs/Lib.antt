@@ -1,5 +1,6 @@
 pub mod Binding
 pub mod Fits
+pub mod Levels
 pub mod Lines
 pub mod Orders
 pub mod Spec

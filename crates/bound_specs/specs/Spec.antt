@@ -1,9 +1,10 @@
 -- A spec as the machine runs it: steps, setups and lines, and the line of each rank.
-use Rattle.std.specs.Prelude.{ℕ, zero, suc, ◌==◌, List, [], ◌∷◌, length, map, set, get_or, ◌<◌, ◌≤◌, cond, All, ◌≡◌}
+use Rattle.std.specs.Prelude.{ℕ, zero, suc, ◌==◌, List, [], ◌∷◌, length, map, set, get_or, ◌<◌, ◌≤◌, cond, All, ◌≡◌, Option}
 use Rattle.perm_ranks.specs.declared.TheConstants.{MAX_SESSIONS, MAX_STEPS}
 use Rattle.perm_ranks.specs.Words.{Word, all_words, word_at}
 use Rattle.spec_reader.specs.declared.TheConstants.{MAX_ITEMS, MAX_LINES}
 use Rattle.bound_statements.specs.declared.statement.Bound.{Bound}
+use Rattle.bound_statements.specs.declared.statement.Level.{Level}
 use Rattle.bound_statements.specs.Plan.{HasKeys, IsShort}
 use Rattle.bound_specs.specs.declared.TheConstants.{MAX_LINED_STEPS}
 
@@ -74,11 +75,12 @@ pub record IsBound (spec : Spec) : Type 0 where
   pub session_setups : length spec.session_setups ≤ spec.sessions
   pub steps : EachStep (λ s. s.session < spec.sessions) spec.steps
 
--- a spec with its text and its names
+-- a spec with its text and its names. `asked` is the level that is asked for where a transaction names none, or none where levels are not asked for
 pub record SpecFile : Type 0 where
   pub text : List ℕ
   pub session_names : List (List ℕ)
   pub step_names : List (List ℕ)
+  pub asked : Option Level
   pub run : Spec
 
 -- each new row of a table with a key has its key

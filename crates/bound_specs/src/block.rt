@@ -1,6 +1,8 @@
-ghost use Rattle.std.specs.Prelude.{◌≡◌};
+ghost use Rattle.std.specs.Prelude.{◌≡◌, IfOk};
+ghost use Rattle.bound_specs.specs.Levels.{levelled_block, levelled_step};
 
-use bound_statements::Bound;
+use bound_statements::{Bound, Level};
+use std::alloc::{AllocError, Global};
 use std::marker::Model;
 
 /// The statements of a setup or a step in their order, seen by contracts as their list.
@@ -43,6 +45,18 @@ impl Block {
     {
         self.statements.as_slice()
     }
+
+    /// The block of statements as they are written, where this level is asked for, or none.
+    pub fn levelled(self, alloc: Global, asked: Option<Level>) -> Result<Block, AllocError>
+        ensures { IfOk result (λ block. block ≡ levelled_block asked self) }
+    {
+        let Block { statements } = self;
+        let mut all = Vec::new(alloc);
+        for statement in statements {
+            all.push(statement.levelled(asked))?;
+        }
+        Ok(Block { statements: all })
+    }
 }
 
 /// A step of the file: the number of the session that sends it, and what it sends.
@@ -78,6 +92,15 @@ impl Step {
         ensures { result ≡ record { session = session; statements = block } }
     {
         Step { session, block }
+    }
+
+    /// The step of statements as they are written, where this level is asked for, or none.
+    pub fn levelled(self, alloc: Global, asked: Option<Level>) -> Result<Step, AllocError>
+        ensures { IfOk result (λ step. step ≡ levelled_step asked self) }
+    {
+        let Step { session, block } = self;
+        let block = block.levelled(alloc, asked)?;
+        Ok(Step { session, block })
     }
 
     pub(crate) fn session(&self) -> u8

@@ -1,20 +1,21 @@
-ghost use Rattle.std.specs.Prelude.{◌≡◌, ◌≢◌, ◌+◌, ◌<◌, ◌≤◌, ◌↔◌, [], ◌∷◌, length, get_or, All, IsTrue, IsSome, IfSome, MatchOption};
+ghost use Rattle.std.specs.Prelude.{◌≡◌, ◌≢◌, ◌+◌, ◌<◌, ◌≤◌, ◌↔◌, [], ◌∷◌, length, get_or, All, IsTrue, None, IsSome, IfSome, MatchOption};
 ghost use Rattle.perm_ranks.specs.declared.TheConstants.{MAX_SESSIONS};
 ghost use Rattle.bound_specs.specs.Spec.{no_step, counts_of, queues_of, ranks, line_of, AllHaveKeys, AllAreShort, IsBound, IsReady};
 ghost use Rattle.bound_statements.specs.Plan.{HasKeys, IsShort};
-ghost use Rattle.bound_specs.specs.Binding.{IsFileOf};
+ghost use Rattle.bound_specs.specs.Binding.{IsFileAt, IsFileOf};
+ghost use Rattle.bound_specs.specs.Levels.{AskAlways};
 ghost use Rattle.bound_specs.specs.Walking.{steps_from};
 ghost use Rattle.bound_specs.specs.Views.{file_of as file_of_parts, IsKept as IsKeptBy};
 
 use crate::block::{Block, Step};
 use crate::orders::{Line, Orders, copied};
 use crate::walking::{line_of_word, step_from};
-use bound_statements::Bound;
+use bound_statements::{Bound, Level};
 use lock_modes::Text;
 use perm_ranks::Shape;
 use std::marker::Model;
 
-/// What a spec is made of: its text, its names, how many sessions it has, and what they send in which orders.
+/// What a spec is made of: its text, its names, how many sessions it has, what they send in which orders, and at which levels.
 pub struct Parts {
     pub text: String,
     pub session_names: Vec<Text>,
@@ -24,6 +25,8 @@ pub struct Parts {
     pub setups: Vec<Block>,
     pub session_setups: Vec<Block>,
     pub orders: Orders,
+    /// The level that is asked for where a transaction names none. None where levels are not asked for.
+    pub levels: Option<Level>,
 }
 
 // Written out and not derived, so that who owns one calls this and does not let its parts go one by one.
@@ -38,6 +41,7 @@ impl Drop for Parts {
             setups: _setups,
             session_setups: _session_setups,
             orders: _orders,
+            levels: _,
         } = self;
     }
 }
@@ -79,9 +83,12 @@ impl Spec {
         Spec { parts }
     }
 
-    /// What every spec keeps: it is what its text binds to.
+    /// What every spec keeps: it is what its text binds to where its level is asked for, or none.
     pub fn known(&self)
-        ensures { IsFileOf self.now.text self.now }
+        ensures at { IsFileAt self.now.text self.now }
+        ensures of { self.now.asked ≡ None → IsFileOf self.now.text self.now }
+        // Where levels are not asked for, each statement asks for its whole plan.
+        ensures always { self.now.asked ≡ None → AskAlways self.now.run }
     {
         let _text = &self.parts.text; // for the proof
     }
@@ -91,6 +98,13 @@ impl Spec {
         ensures { IsReady self.now }
     {
         let _text = &self.parts.text; // for the proof
+    }
+
+    /// The level that is asked for where a transaction names none. None where levels are not asked for.
+    pub fn levels(&self) -> Option<Level>
+        ensures { result ≡ self.now.asked }
+    {
+        self.parts.levels
     }
 
     /// The text of the file.

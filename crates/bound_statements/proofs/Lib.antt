@@ -1,2 +1,4 @@
 pub mod ConditionLemmas
+pub mod LevelLemmas
 pub mod PlanModes
+mod Worked

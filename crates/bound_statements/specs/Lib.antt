@@ -1,2 +1,3 @@
 pub mod Conditions
+pub mod Levels
 pub mod Plan

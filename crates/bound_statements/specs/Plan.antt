@@ -61,7 +61,7 @@ plan (Insert t None rows) = table_plan t Exclusive
 plan (Update t key sets c) = row_plan t key IntentExclusive Exclusive
 plan (Delete t key c) = row_plan t key IntentExclusive Exclusive
 plan (Lock t m nowait) = table_plan t m
-plan Begin = []
+plan (Begin level) = []
 plan Commit = []
 plan Rollback = []
 plan SetVariable = []
@@ -73,7 +73,7 @@ nowait (Lock t m refuses) = refuses
 nowait (Insert t k rows) = false
 nowait (Update t key sets c) = false
 nowait (Delete t key c) = false
-nowait Begin = false
+nowait (Begin level) = false
 nowait Commit = false
 nowait Rollback = false
 nowait SetVariable = false
@@ -135,7 +135,7 @@ looks_at (Insert t None rows) p = p.0 == t
 looks_at (Update t key sets c) p = (p.0 == t) && at_key key p.1
 looks_at (Delete t key c) p = (p.0 == t) && at_key key p.1
 looks_at (Lock t m nowait) p = false
-looks_at Begin p = false
+looks_at (Begin level) p = false
 looks_at Commit p = false
 looks_at Rollback p = false
 looks_at SetVariable p = false

@@ -8,5 +8,5 @@ mod statement;
 
 pub use condition::{Comparison, Condition};
 pub use expression::{AddSign, Expression, Operand, Product, SignedProduct};
-pub use plan::{lock_plan, nowait};
-pub use statement::{Aggregate, Assignment, Bound, Order, Output, RowLock, SortKey};
+pub use plan::{is_unlocked, is_unlocked_at, lock_plan, nowait};
+pub use statement::{Aggregate, Assignment, Bound, Level, Order, Output, RowLock, SortKey};

@@ -5,8 +5,10 @@ ghost use Rattle.std.specs.Option.{option_map, option_copied};
 ghost use Rattle.lock_modes.specs.Resource.{resource_at};
 ghost use Rattle.bound_statements.specs.Plan.{request, plan, table_plan, row_plan, insert_plan, key_lock, select_intent, select_mode, HasKeys, HasKey};
 ghost use Rattle.bound_statements.specs.Plan as spec;
+ghost use Rattle.bound_statements.specs.Levels as levels;
+ghost use Rattle.bound_statements.specs.Levels.{at_level, is_committed};
 
-use crate::statement::{Bound, RowLock};
+use crate::statement::{Bound, Level, RowLock};
 use lock_modes::{Mode, Place, Row, Value};
 
 /// The request with this number of a statement's lock plan, in the order in which the statement asks for locks. None from their number on.
@@ -44,7 +46,7 @@ pub fn lock_plan(statement: &Bound, number: u8) -> Option<(Place<'_>, Mode)>
             number,
         ),
         Bound::Lock(table, mode, _) => table_request(*table, *mode, number),
-        Bound::Begin | Bound::Commit | Bound::Rollback | Bound::SetVariable => None,
+        Bound::Begin(_) | Bound::Commit | Bound::Rollback | Bound::SetVariable => None,
     }
 }
 
@@ -58,10 +60,39 @@ pub fn nowait(statement: &Bound) -> bool
         Bound::Insert(_, _, _)
         | Bound::Update(_, _, _, _)
         | Bound::Delete(_, _, _)
-        | Bound::Begin
+        | Bound::Begin(_)
         | Bound::Commit
         | Bound::Rollback
         | Bound::SetVariable => false,
+    }
+}
+
+/// Whether the statement asks for none of its plan, as a plain select at READ COMMITTED.
+pub fn is_unlocked(statement: &Bound) -> bool
+    ensures { result ≡ levels.is_unlocked statement.now }
+{
+    match statement {
+        Bound::Select(_, _, _, _, _, lock) => is_committed(lock.level),
+        _ => false,
+    }
+}
+
+/// The same in a block of a level.
+pub fn is_unlocked_at(level: Level, statement: &Bound) -> bool
+    ensures { result ≡ levels.is_unlocked (at_level level statement.now) }
+{
+    match statement {
+        Bound::Select(_, _, _, _, _, lock) => is_committed(lock.at(Some(level)).level),
+        _ => false,
+    }
+}
+
+fn is_committed(level: Option<Level>) -> bool
+    ensures { result ≡ is_committed level }
+{
+    match level {
+        None | Some(Level::Serializable) => false,
+        Some(Level::Committed) => true,
     }
 }
 

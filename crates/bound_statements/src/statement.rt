@@ -1,5 +1,8 @@
 //! Statements as the machine runs them.
 
+ghost use Rattle.std.specs.Prelude.{◌≡◌};
+ghost use Rattle.bound_statements.specs.Levels.{levelled, lock_at, named_by};
+
 use crate::condition::Condition;
 use crate::expression::Expression;
 use lock_modes::{Mode, Row, Value};
@@ -51,6 +54,15 @@ pub struct Assignment {
     pub value: Expression,
 }
 
+/// How a transaction reads.
+#[derive(Clone, Copy, PartialEq, Eq)]
+pub enum Level {
+    /// What a statement reads is locked until the transaction ends.
+    Serializable,
+    /// A plain select asks for no lock, and reads what is committed at that moment.
+    Committed,
+}
+
 /// How a select locks the rows that it looks at.
 #[derive(Clone, Copy, PartialEq, Eq)]
 pub struct RowLock {
@@ -58,6 +70,25 @@ pub struct RowLock {
     pub exclusive: bool,
     /// Whether its requests refuse to wait.
     pub nowait: bool,
+    /// The level of a plain select where no block has another one. None of a select that asks for its locks at each level, as FOR UPDATE and FOR SHARE
+    /// do, and as each select does where levels are not asked for.
+    pub level: Option<Level>,
+}
+
+impl RowLock {
+    /// The lock at a level, or without one, where it has any.
+    pub(crate) fn at(self, level: Option<Level>) -> RowLock
+        ensures { result ≡ lock_at level self }
+    {
+        RowLock {
+            exclusive: self.exclusive,
+            nowait: self.nowait,
+            level: match self.level {
+                None => None,
+                Some(_) => level,
+            },
+        }
+    }
 }
 
 /// A statement whose tables and columns are numbers, which stand for their places among the declared tables and among the
@@ -68,7 +99,8 @@ pub enum Bound {
     Insert(u16, Option<u16>, Items<Row>),
     Update(u16, Option<Value>, Items<Assignment>, Condition),
     Delete(u16, Option<Value>, Condition),
-    Begin,
+    /// The level of the block that it makes, if it has one. None where levels are not asked for.
+    Begin(Option<Level>),
     Commit,
     Rollback,
     /// A mode on the table, and whether its request refuses to wait.
@@ -84,11 +116,45 @@ impl Drop for Bound {
             Bound::Insert(_, _, _c) => {}
             Bound::Update(_, _b, _c, _d) => {}
             Bound::Delete(_, _b, _c) => {}
-            Bound::Begin => {}
+            Bound::Begin(_) => {}
             Bound::Commit => {}
             Bound::Rollback => {}
             Bound::Lock(_, _, _) => {}
             Bound::SetVariable => {}
         }
+    }
+}
+
+impl Bound {
+    /// The statement where levels are asked for, with this one for each transaction that names none; or where they are not asked for.
+    pub fn levelled(self, asked: Option<Level>) -> Bound
+        ensures { result ≡ levelled asked self }
+    {
+        match self {
+            Bound::Select(table, key, condition, order, output, lock) => {
+                Bound::Select(table, key, condition, order, output, lock.at(asked))
+            }
+            Bound::Begin(named) => Bound::Begin(named_by(asked, named)),
+            Bound::Insert(table, key_column, rows) => Bound::Insert(table, key_column, rows),
+            Bound::Update(table, key, sets, condition) => {
+                Bound::Update(table, key, sets, condition)
+            }
+            Bound::Delete(table, key, condition) => Bound::Delete(table, key, condition),
+            Bound::Commit => Bound::Commit,
+            Bound::Rollback => Bound::Rollback,
+            Bound::Lock(table, mode, nowait) => Bound::Lock(table, mode, nowait),
+            Bound::SetVariable => Bound::SetVariable,
+        }
+    }
+}
+
+/// The level of a BEGIN that names this one, or none.
+fn named_by(asked: Option<Level>, named: Option<Level>) -> Option<Level>
+    ensures { result ≡ named_by asked named }
+{
+    let default = asked?;
+    match named {
+        Some(level) => Some(level),
+        None => Some(default),
     }
 }

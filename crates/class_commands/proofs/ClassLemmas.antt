@@ -1,13 +1,8 @@
 -- What is written of the classes of a spec, and what is found of them.
-use Rattle.std.proofs.Common.{◌≡◌, refl, ap, subst, ℕ, Bool, true, false, List, [], ◌∷◌, map, All, Option, Result, Ok, Err, cond}
+use Rattle.std.proofs.Common.{◌≡◌, refl, sym, ap, ◌∙◌, subst, ℕ, Bool, true, false, List, [], ◌∷◌, map, All, Option, None, Result, Ok, Err, cond}
 use Rattle.std.proofs.lemmas.Bool.{and_from, and_parts}
 use Rattle.std.proofs.lemmas.List.Elements.{All-cons, All-head, All-nil, All-tail}
 use Rattle.std.specs.List.{list_all}
-use Rattle.binding_model.specs.Refusals.{each}
-use Rattle.bound_specs.specs.Binding.{IsFileOf, declared, main_setup, session, shaped}
-use Rattle.bound_specs.specs.Lines.{orders_of}
-use Rattle.bound_specs.proofs.FileLemmas.{bind}
-use Rattle.bound_specs.specs.Spec.{SpecFile}
 use Rattle.bound_statements.specs.declared.statement.Bound.{Bound}
 use Rattle.lock_modes.specs.declared.value.Value.{Value}
 use Rattle.machine_model.specs.Start.{Started, start}
@@ -17,7 +12,7 @@ use Rattle.session_machine.specs.declared.error.RunError.{RunError}
 use Rattle.transcripts.specs.declared.counted.Counted.{Counted}
 use Rattle.order_classes.specs.Looks.{one_row}
 use Rattle.order_classes.specs.declared.rows.ClassRow.{ClassRow}
-use Rattle.spec_texts.specs.Levels.{AreLevelLines}
+use Rattle.spec_levels.specs.Levels.{AreLevels}
 use Rattle.spec_texts.specs.Texts.{Declares}
 use Rattle.class_looks.specs.Seeing.{told_by}
 use Rattle.class_rows.specs.declared.rows.Classed.{Classed}
@@ -29,26 +24,17 @@ use Rattle.book_commands.specs.declared.finding.Finding.{Finding}
 use Rattle.book_commands.specs.declared.finding.Finding.TheVariants.{Good, Bad}
 use Rattle.class_commands.specs.declared.asking.AskedSpec.{AskedSpec}
 use Rattle.class_commands.specs.declared.classing.ClassesFault.{ClassesFault}
-use Rattle.class_commands.specs.declared.classing.ClassesFault.TheVariants.{Spec, Asked, Run, TooMany, NoMemory, Write}
+use Rattle.class_commands.specs.declared.classing.ClassesFault.TheVariants.{Spec, Level, Asked, Run, TooMany, NoMemory, Write}
 use Rattle.class_commands.specs.Classing.{AreCounted, MayHaveManyStates, IsClassesRun, IsFinding, IsMet, IsNotTold, IsTellingOf, expectation_over, grouping, kind_by, page_of, seen_of}
 use Rattle.class_commands.specs.Opened.{IsWrittenAs}
 use Rattle.class_commands.specs.Parts.{IsAskedSpec, IsNotAskedSpec, IsNotFound, IsTextOf, Writes, finding_by}
 
--- a spec file has the text that it is of
-pub text-is : (text : List ℕ) (file : SpecFile) → IsFileOf text file → file.text ≡ text
-text-is text file is =
-    let tree = is.tree in
-    let a = bind (shaped (orders_of tree)) _ file is.is_bound in
-    let b = bind (declared main_setup [] tree.front.setups) _ file a.1.1 in
-    let c = bind (each (session b.0.0) tree.sessions) _ file b.1.1 in
-    cc (c.1.1)
-
 module _ {W : Type 0} (contents : W → Option (List ℕ)) (old new : Counted W) (bytes path : List ℕ) (wanted : WantedClasses) (a : AskedSpec)
     (is : IsAskedSpec bytes wanted a) (classed : Classed) (are : AreCounted wanted.sample (kind_by wanted.all_orders) a.tables.items a.spec.run a.asked.filters.items (grouping wanted.by_result) classed)
     (world : World) (starts : start a.spec.run ≡ Started world) where
-  abbrev telling : (text : List ℕ) → IsTextOf path a.spec a.tables.items wanted a.asked classed text → IsTellingOf bytes path wanted text
+  abbrev telling : (text : List ℕ) → IsTextOf path a.spec a.tables.items a.levels wanted a.asked classed text → IsTellingOf bytes path wanted text
   telling text is-text =
-      let same = text-is bytes a.spec is.is_file in record {
+      let same = is.text in record {
         file = a.spec;
         is_file = is.is_file;
         tables = a.tables.items;
@@ -59,17 +45,18 @@ module _ {W : Type 0} (contents : W → Option (List ℕ)) (old new : Counted W)
         starts = starts;
         classed = classed;
         are = are;
-        levels = is-text.0;
-        are_levels = subst (λ t. AreLevelLines t a.spec is-text.0) same is-text.1;
-        written = subst (λ t. IsWrittenAs wanted.form t a.spec (page_of path a.spec a.tables.items is-text.0 wanted a.asked classed) text) same is-text.2;
+        levels = a.levels;
+        are_levels = subst (λ t. AreLevels t a.spec a.levels) same is.are_levels;
+        written = subst (λ t. IsWrittenAs wanted.form t a.spec (page_of path a.spec a.tables.items a.levels wanted a.asked classed) text) same is-text;
       }
 
   -- what is written of them is the run's
   pub classes-run : (result : Result Finding ClassesFault)
-      → Writes contents old new (IsTextOf path a.spec a.tables.items wanted a.asked classed) (IsFinding classed.rows.items a.asked.expectations.items) result
+      → Writes contents old new (IsTextOf path a.spec a.tables.items a.levels wanted a.asked classed) (IsFinding classed.rows.items a.asked.expectations.items) result
       → IsClassesRun contents old new bytes path wanted result
   classes-run (Ok finding) done = (done.0.0, (telling done.0.0 done.0.1, done.1), done.0.2)
   classes-run (Err (Spec fault)) never = absurd never
+  classes-run (Err (Level fault)) never = absurd never
   classes-run (Err (Asked fault)) never = absurd never
   classes-run (Err (Run error)) never = absurd never
   classes-run (Err (TooMany noted)) never = absurd never
@@ -80,6 +67,7 @@ module _ {W : Type 0} (contents : W → Option (List ℕ)) (old : Counted W) (by
   -- why nothing is asked is why nothing is written
   pub not-asked : (fault : ClassesFault) → IsNotAskedSpec bytes wanted fault → IsNotTold contents old old bytes path wanted fault
   not-asked (Spec fault) is = (refl, is)
+  not-asked (Level fault) is = (refl, is)
   not-asked (Asked fault) is = (refl, is)
   not-asked (Run error) never = absurd never
   not-asked (TooMany noted) never = absurd never
@@ -89,18 +77,19 @@ module _ {W : Type 0} (contents : W → Option (List ℕ)) (old : Counted W) (by
   -- nor is anything where the orders are not run
   pub not-run : (a : AskedSpec) → IsAskedSpec bytes wanted a → (error : RunError) → IsNotRunBy error (start a.spec.run) → IsNotTold contents old old bytes path wanted (Run error)
   not-run a is error is-not =
-      let declares = subst (λ t. Declares t a.spec a.tables.items) (text-is bytes a.spec is.is_file) is.declares in
+      let declares = subst (λ t. Declares t a.spec a.tables.items) is.text is.declares in
       (refl, (a.spec, is.is_file, (a.tables.items, declares, ((a.asked, is.is_asked), is-not))))
 
   -- nor where there are too many states
   not-explored : (a : AskedSpec) → IsAskedSpec bytes wanted a → (noted : ℕ) → MayHaveManyStates wanted.sample a.spec → IsNotTold contents old old bytes path wanted (TooMany noted)
   not-explored a is noted many =
-      let declares = subst (λ t. Declares t a.spec a.tables.items) (text-is bytes a.spec is.is_file) is.declares in
+      let declares = subst (λ t. Declares t a.spec a.tables.items) is.text is.declares in
       (refl, (a.spec, is.is_file, (a.tables.items, declares, ((a.asked, is.is_asked), many))))
 
   -- nor where nothing is found of them
   pub not-found : (a : AskedSpec) → IsAskedSpec bytes wanted a → (fault : ClassesFault) → IsNotFound wanted.sample a.spec fault → IsNotTold contents old old bytes path wanted fault
   not-found a is (Spec fault) never = absurd never
+  not-found a is (Level fault) never = absurd never
   not-found a is (Asked fault) never = absurd never
   not-found a is (Run error) is-not = not-run a is error is-not
   not-found a is (TooMany noted) many = not-explored a is noted many

@@ -17,6 +17,7 @@ use Rattle.class_rows.specs.declared.rows.Classed.{Classed}
 use Rattle.class_texts.specs.Pages.{Page}
 use Rattle.class_values.specs.Class.{classes_part}
 use Rattle.class_values.specs.Page as classes
+use Rattle.shown_values.specs.Levels.{levels_json}
 use Rattle.shown_values.specs.Page.{Sheet, order_json, numbers_json, shown_json}
 use Rattle.spec_commands.specs.Showing.{IsShowing}
 use Rattle.spec_commands.specs.declared.showing.ShowForm.TheVariants.{Json}
@@ -35,6 +36,8 @@ module _ {bytes path : List ℕ} {file : SpecFile} {rank : ℕ} {text : List ℕ
     name = path;
     rank = rank;
     orders = ranks file.run;
+    level = showing.levels.asked;
+    other_lines = showing.levels.other_lines.items;
     session_names = file.session_names;
     step_names = file.step_names;
     step_sessions = map (λ (s : Step). s.session) file.run.steps;
@@ -44,7 +47,7 @@ module _ {bytes path : List ℕ} {file : SpecFile} {rank : ℕ} {text : List ℕ
   }
 
   abbrev shown_front : List ℕ
-  shown_front = order_json sheet ++ numbers_json sheet ++ shown_json sheet.step_names sheet.shown
+  shown_front = order_json sheet ++ levels_json sheet.level sheet.other_lines ++ numbers_json sheet ++ shown_json sheet.step_names sheet.shown
 
   -- what is shown of an order ends in a line feed
   pub shown-line : (order : List ℕ) × (text ≡ line order)
@@ -54,7 +57,7 @@ module _ {bytes path : List ℕ} {file : SpecFile} {rank : ℕ} {text : List ℕ
 pub classes-line : (page : Page) (step_sessions : List ℕ) (statements : List (List ℕ)) → (front : List ℕ) × (classes.classes_json page step_sessions statements ≡ line front)
 classes-line page step_sessions statements =
     let front : List ℕ =
-    classes.counts_json page ++ classes.numbers_json page step_sessions statements ++ classes.levels_json page ++ classes.grouped_json page ++ classes_part page in
+    classes.counts_json page ++ classes.numbers_json page step_sessions statements ++ classes.levels_part page ++ classes.grouped_json page ++ classes_part page in
     (front ++ codes "}", ends front)
 
 -- ---- orders

@@ -13,7 +13,8 @@ use Rattle.class_stretches.specs.declared.rank_run.RankRun.{RankRun}
 use Rattle.class_texts.specs.Pages.{Page}
 use Rattle.class_texts.specs.declared.kind.ClassKind.TheVariants.{Outcomes}
 use Rattle.wanted_classes.specs.declared.wanted.WantedOutcomes.{WantedOutcomes}
-use Rattle.spec_texts.specs.Levels.{AreLevelLines}
+use Rattle.spec_levels.specs.Levels.{AreLevels}
+use Rattle.spec_levels.specs.declared.levels.Levels.{Levels}
 use Rattle.class_commands.specs.Written.{AreRanks, IsWritten}
 use Rattle.class_commands.specs.declared.booking.BookClassesFault.{BookClassesFault}
 use Rattle.class_commands.specs.declared.booking.BookClassesFault.TheVariants.{Join, Clash, NoMemory, Write}
@@ -22,7 +23,7 @@ use Rattle.class_commands.specs.declared.booking.BookClassesFault.TheVariants.{J
 abbrev pub books_name : List (List ℕ) → List ℕ
 books_name paths = cond (length paths == 1) (get_or paths 0 []) (decimal (length paths) ++ codes " books")
 
-abbrev pub outcomes_page : List (List ℕ) → SpecFile → List ℕ → BookClasses → WantedOutcomes → List (List RankRun) → Page
+abbrev pub outcomes_page : List (List ℕ) → SpecFile → Levels → BookClasses → WantedOutcomes → List (List RankRun) → Page
 outcomes_page paths file levels x wanted runs = record {
   path = books_name paths;
   orders = ranks file.run;
@@ -35,7 +36,8 @@ outcomes_page paths file levels x wanted runs = record {
   is_filtered = is_some x.missing;
   filters = [];
   missing = x.missing;
-  level_lines = levels;
+  level = levels.asked;
+  other_lines = levels.other_lines.items;
   expectations = [];
   totals = x.totals;
   rows = x.rows.items;
@@ -51,7 +53,7 @@ outcomes_page paths file levels x wanted runs = record {
 abbrev pub IsBookText : List (List ℕ) → SpecFile → BookClasses → WantedOutcomes → List ℕ → Type 0
 IsBookText paths file x wanted text =
     (runs : List (List RankRun)) × AreRanks wanted.ranks x.told.stretches runs
-    × ((levels : List ℕ) × AreLevelLines file.text file levels × IsWritten wanted.json file.text file (outcomes_page paths file levels x wanted runs) text)
+    × ((levels : Levels) × AreLevels file.text file levels × IsWritten wanted.json file.text file (outcomes_page paths file levels x wanted runs) text)
 
 -- the text tells the classes of what the books in the files tell, which are of one spec
 pub record IsTellingOfBooks (files : Files) (paths : List (List ℕ)) (wanted : WantedOutcomes) (text : List ℕ) : Type 0 where

@@ -2,7 +2,6 @@
 use Rattle.std.specs.Prelude.{◌≡◌, ◌↔◌, ℕ, max, Bool, true, false, cond, List, [], ◌∷◌, ◌++◌, get_or, map, flat_map, codes, All, Option, Some, None, Result, Ok, Err}
 use Rattle.binding_model.specs.declared.tables.Table.{Table}
 use Rattle.bound_specs.specs.Spec.{Spec as Steps, SpecFile, ranks as ranks_of}
-use Rattle.bound_specs.specs.Binding.{IsFileOf}
 use Rattle.bound_statements.specs.declared.statement.Bound.{Bound}
 use Rattle.machine_model.specs.Start.{Started, start}
 use Rattle.machine_model.specs.World.{World}
@@ -12,7 +11,9 @@ use Rattle.transcripts.specs.Counted.{Wrote, Stopped}
 use Rattle.transcripts.specs.declared.counted.Counted.{Counted}
 use Rattle.events.specs.declared.event.Event.{Event}
 use Rattle.spec_binding.specs.SpecFiles.{IsNoSpec}
-use Rattle.spec_texts.specs.Levels.{AreLevelLines}
+use Rattle.spec_levels.specs.Levelled.{IsLevelledSpec, IsWrongLevel}
+use Rattle.spec_levels.specs.Levels.{AreLevels}
+use Rattle.spec_levels.specs.declared.levels.Levels.{Levels}
 use Rattle.spec_texts.specs.Texts.{Declares}
 use Rattle.order_classes.specs.Looks.{one_row}
 use Rattle.order_classes.specs.declared.letters.Filter.{Filter}
@@ -44,7 +45,7 @@ use Rattle.book_commands.specs.declared.finding.Finding.{Finding}
 use Rattle.book_commands.specs.declared.finding.Finding.TheVariants.{Good}
 use Rattle.class_commands.specs.Opened.{IsWrittenAs}
 use Rattle.class_commands.specs.declared.classing.ClassesFault.{ClassesFault}
-use Rattle.class_commands.specs.declared.classing.ClassesFault.TheVariants.{Spec, Asked, Run, TooMany, NoMemory, Write}
+use Rattle.class_commands.specs.declared.classing.ClassesFault.TheVariants.{Spec, Level, Asked, Run, TooMany, NoMemory, Write}
 
 -- ---- the page
 
@@ -96,8 +97,8 @@ abbrev pub has_some : {X : Type 0} → List X → Bool
 has_some [] = false
 has_some (x ∷ xs) = true
 
--- with the path that the spec is told to lie at, and the lines of levels that have no effect
-abbrev pub page_of : List ℕ → SpecFile → List Table → List ℕ → WantedClasses → AskedClasses → Classed → Page
+-- with the path that the spec is told to lie at, and its levels
+abbrev pub page_of : List ℕ → SpecFile → List Table → Levels → WantedClasses → AskedClasses → Classed → Page
 page_of path file tables levels wanted asked x =
     record {
       path = path;
@@ -111,7 +112,8 @@ page_of path file tables levels wanted asked x =
       is_filtered = has_some asked.filters.items;
       filters = filters_text (filters_of wanted);
       missing = None;
-      level_lines = levels;
+      level = levels.asked;
+      other_lines = levels.other_lines.items;
       expectations = map (expectation_over x.rows.items) asked.expectations.items;
       totals = x.totals;
       rows = x.rows.items;
@@ -162,10 +164,11 @@ pub record AreCounted (sample : Option WantedSample) (kind : Kind) (tables : Lis
 
 -- ---- the text
 
--- the text tells the classes of the orders that are asked for of the spec file that the bytes are, with the tables that its main setups declare
+-- the text tells the classes of the orders that are asked for of the spec file that the bytes are at the level that is wanted, with the tables that its main
+-- setups declare
 pub record IsTellingOf (bytes path : List ℕ) (wanted : WantedClasses) (text : List ℕ) : Type 0 where
   pub file : SpecFile
-  pub is_file : IsFileOf bytes file
+  pub is_file : IsLevelledSpec bytes wanted.level file
   pub tables : List Table
   pub declares : Declares bytes file tables
   pub asked : AskedClasses
@@ -174,8 +177,8 @@ pub record IsTellingOf (bytes path : List ℕ) (wanted : WantedClasses) (text : 
   pub starts : start file.run ≡ Started world
   pub classed : Classed
   pub are : AreCounted wanted.sample (kind_by wanted.all_orders) tables file.run asked.filters.items (grouping wanted.by_result) classed
-  pub levels : List ℕ
-  pub are_levels : AreLevelLines bytes file levels
+  pub levels : Levels
+  pub are_levels : AreLevels bytes file levels
   pub written : IsWrittenAs wanted.form bytes file (page_of path file tables levels wanted asked classed) text
 
 -- what is found of the orders that it tells of
@@ -184,7 +187,7 @@ IsFoundIn telling finding = IsFinding telling.classed.rows.items telling.asked.e
 
 -- of the file nothing is asked, or something is and the orders are not run
 abbrev pub IsNotAsked : List ℕ → WantedClasses → (SpecFile → List Table → Type 0) → Type 0
-IsNotAsked bytes wanted Why = (file : SpecFile) × IsFileOf bytes file × ((tables : List Table) × Declares bytes file tables × Why file tables)
+IsNotAsked bytes wanted Why = (file : SpecFile) × IsLevelledSpec bytes wanted.level file × ((tables : List Table) × Declares bytes file tables × Why file tables)
 
 abbrev pub IsNotRun : SpecFile → List Table → WantedClasses → RunError → Type 0
 IsNotRun file tables wanted error = ((asked : AskedClasses) × IsAsked file tables wanted asked) × IsNotRunBy error (start file.run)
@@ -197,10 +200,11 @@ MayHaveManyStates sample file = (sample ≡ None) × (file.run.lines ≡ []) × 
 abbrev pub IsNotExplored : SpecFile → List Table → WantedClasses → Type 0
 IsNotExplored file tables wanted = ((asked : AskedClasses) × IsAsked file tables wanted asked) × MayHaveManyStates wanted.sample file
 
--- why classes are not written, and what that leaves in the writer: the bytes are no spec file; nothing is asked of it; the orders are not run; there is no
--- room for all states; memory ran out; or a write fails, which leaves a front of such a text
+-- why classes are not written, and what that leaves in the writer: the bytes are no spec file; what it says of levels is wrong; nothing is
+-- asked of it; the orders are not run; there is no room for all states; memory ran out; or a write fails, which leaves a front of such a text
 abbrev pub IsNotTold : {W : Type 0} → (W → Option (List ℕ)) → Counted W → Counted W → List ℕ → List ℕ → WantedClasses → ClassesFault → Type 0
 IsNotTold contents old new bytes path wanted (Spec fault) = (new ≡ old) × IsNoSpec bytes fault
+IsNotTold contents old new bytes path wanted (Level fault) = (new ≡ old) × IsWrongLevel bytes wanted.level fault
 IsNotTold contents old new bytes path wanted (Asked fault) = (new ≡ old) × IsNotAsked bytes wanted (λ file tables. IsRefused file tables wanted fault)
 IsNotTold contents old new bytes path wanted (Run error) = (new ≡ old) × IsNotAsked bytes wanted (λ file tables. IsNotRun file tables wanted error)
 IsNotTold contents old new bytes path wanted (TooMany noted) = (new ≡ old) × IsNotAsked bytes wanted (λ file tables. IsNotExplored file tables wanted)

@@ -2,7 +2,6 @@
 use Rattle.std.specs.Prelude.{◌≡◌, ℕ, cond, List, Option, Result, Ok, Err}
 use Rattle.std.specs.List.{list_all}
 use Rattle.binding_model.specs.declared.tables.Table.{Table}
-use Rattle.bound_specs.specs.Binding.{IsFileOf}
 use Rattle.bound_specs.specs.Spec.{SpecFile}
 use Rattle.machine_model.specs.Start.{start}
 use Rattle.session_machine.specs.Running.{IsNotRunBy}
@@ -10,7 +9,9 @@ use Rattle.session_steps.specs.Refused.{IsRefusedBy}
 use Rattle.schedule_counts.specs.declared.counting.StatesError.{StatesError}
 use Rattle.schedule_counts.specs.declared.counting.StatesError.TheVariants as states
 use Rattle.spec_binding.specs.SpecFiles.{IsNoSpec}
-use Rattle.spec_texts.specs.Levels.{AreLevelLines}
+use Rattle.spec_levels.specs.Levelled.{IsLevelledSpec, IsWrongLevel}
+use Rattle.spec_levels.specs.Levels.{AreLevels}
+use Rattle.spec_levels.specs.declared.levels.Levels.{Levels}
 use Rattle.spec_texts.specs.Texts.{Declares}
 use Rattle.transcripts.specs.Counted.{Wrote, Stopped}
 use Rattle.transcripts.specs.declared.counted.Counted.{Counted}
@@ -24,19 +25,22 @@ use Rattle.book_commands.specs.declared.finding.Finding.{Finding}
 use Rattle.book_commands.specs.declared.finding.Finding.TheVariants.{Good, Bad}
 use Rattle.class_commands.specs.declared.asking.AskedSpec.{AskedSpec}
 use Rattle.class_commands.specs.declared.classing.ClassesFault.{ClassesFault}
-use Rattle.class_commands.specs.declared.classing.ClassesFault.TheVariants.{Spec, Asked, Run, TooMany, NoMemory, Write}
+use Rattle.class_commands.specs.declared.classing.ClassesFault.TheVariants.{Spec, Level, Asked, Run, TooMany, NoMemory, Write}
 use Rattle.class_commands.specs.Opened.{IsWrittenAs}
 use Rattle.class_commands.specs.Classing.{MayHaveManyStates, IsNotAsked, page_of}
 
--- the spec file that the bytes are, with the tables that its main setups declare, and what is asked of it
+-- the spec file that the bytes are at the level that is wanted, with the tables that its main setups declare, its levels, and what is asked of it
 pub record IsAskedSpec (bytes : List ℕ) (wanted : WantedClasses) (a : AskedSpec) : Type 0 where
-  pub is_file : IsFileOf bytes a.spec
+  pub is_file : IsLevelledSpec bytes wanted.level a.spec
+  pub text : a.spec.text ≡ bytes
   pub declares : Declares a.spec.text a.spec a.tables.items
+  pub are_levels : AreLevels a.spec.text a.spec a.levels
   pub is_asked : IsAsked a.spec a.tables.items wanted a.asked
 
--- the bytes are no spec file; nothing is asked of it; or memory ran out
+-- the bytes are no spec file; what it says of levels is wrong; nothing is asked of it; or memory ran out
 abbrev pub IsNotAskedSpec : List ℕ → WantedClasses → ClassesFault → Type 0
 IsNotAskedSpec bytes wanted (Spec fault) = IsNoSpec bytes fault
+IsNotAskedSpec bytes wanted (Level fault) = IsWrongLevel bytes wanted.level fault
 IsNotAskedSpec bytes wanted (Asked fault) = IsNotAsked bytes wanted (λ file tables. IsRefused file tables wanted fault)
 IsNotAskedSpec bytes wanted NoMemory = Unit {0}
 IsNotAskedSpec bytes wanted fault = ⊥
@@ -55,9 +59,8 @@ IsNotFound sample file NoMemory = Unit {0}
 IsNotFound sample file fault = ⊥
 
 -- the text is the page of what is found
-abbrev pub IsTextOf : List ℕ → SpecFile → List Table → WantedClasses → AskedClasses → Classed → List ℕ → Type 0
-IsTextOf path file tables wanted asked x text =
-    (levels : List ℕ) × AreLevelLines file.text file levels × IsWrittenAs wanted.form file.text file (page_of path file tables levels wanted asked x) text
+abbrev pub IsTextOf : List ℕ → SpecFile → List Table → Levels → WantedClasses → AskedClasses → Classed → List ℕ → Type 0
+IsTextOf path file tables levels wanted asked x text = IsWrittenAs wanted.form file.text file (page_of path file tables levels wanted asked x) text
 
 -- such a text is written and such a finding told; or a front of it is written, or nothing for want of memory
 abbrev pub Writes : {W : Type 0} → (W → Option (List ℕ)) → Counted W → Counted W → (List ℕ → Type 0) → (Finding → Type 0) → Result Finding ClassesFault → Type 0

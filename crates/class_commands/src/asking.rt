@@ -1,22 +1,25 @@
 //! What is read of a spec, and asked of it.
 
-ghost use Rattle.std.specs.Prelude.{IfErr, IfOk};
+ghost use Rattle.std.specs.Prelude.{ℕ, List, IfErr, IfOk};
+ghost use Rattle.spec_levels.specs.Levelled.{IsNoLevelledSpec};
+ghost use Rattle.wanted_classes.specs.declared.wanted.WantedClasses.{WantedClasses as Wanted};
 ghost use Rattle.class_commands.specs.Parts.{IsAskedSpec, IsNotAskedSpec};
 
 use crate::classing::ClassesFault;
 use asked_classes::{AskedClasses, asked_of};
 use binding_model::Table;
 use bound_specs::Spec;
-use spec_binding::spec_of;
+use spec_levels::{LevelledFault, Levels, levelled_spec, levels_of};
 use spec_texts::tables_of;
 use std::alloc::Global;
 use wanted_classes::WantedClasses;
 
-/// A spec, the tables that its main setups declare, and what is asked of it.
+/// A spec, the tables that its main setups declare, its levels, and what is asked of it.
 #[derive(Drop)]
 pub(crate) struct AskedSpec<'a> {
     pub(crate) spec: Spec,
     pub(crate) tables: Vec<Table>,
+    pub(crate) levels: Levels,
     pub(crate) asked: AskedClasses<'a>,
 }
 
@@ -29,11 +32,14 @@ pub(crate) fn asked_spec<'a>(
     ensures read { IfOk result (IsAskedSpec bytes.now wanted.now) }
     ensures refused { IfErr result (IsNotAskedSpec bytes.now wanted.now) }
 {
-    let spec = match spec_of(alloc, bytes) {
+    let spec = match levelled_spec(alloc, bytes, wanted.level) {
         Ok(spec) => spec,
-        Err(fault) => return Err(ClassesFault::Spec(fault)),
+        Err(fault) => return Err(not_read(fault)),
     };
     let Ok(tables) = tables_of(alloc, &spec) else {
+        return Err(ClassesFault::NoMemory);
+    };
+    let Ok(levels) = levels_of(alloc, &spec) else {
         return Err(ClassesFault::NoMemory);
     };
     let asked = match asked_of(alloc, &spec, tables.as_slice(), wanted) {
@@ -43,6 +49,18 @@ pub(crate) fn asked_spec<'a>(
     Ok(AskedSpec {
         spec,
         tables,
+        levels,
         asked,
     })
+}
+
+/// Why nothing is asked of bytes that are no spec at the level.
+fn not_read<'a>(fault: LevelledFault) -> ClassesFault<'a>
+    ensures { (bytes : List ℕ) (wanted : Wanted) → IsNoLevelledSpec bytes wanted.level fault → IsNotAskedSpec bytes wanted result }
+{
+    match fault {
+        LevelledFault::Spec(fault) => ClassesFault::Spec(fault),
+        LevelledFault::Level(fault) => ClassesFault::Level(fault),
+        LevelledFault::NoMemory => ClassesFault::NoMemory,
+    }
 }

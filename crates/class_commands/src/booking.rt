@@ -15,7 +15,7 @@ use bound_specs::Spec;
 use class_texts::{ClassKind, Page};
 use fact_books::Book;
 use itoa::Buffer;
-use spec_texts::level_lines;
+use spec_levels::levels_of;
 use std::alloc::{AllocError, Global};
 use std::io::Write;
 use transcripts::{Counted, WriteFault};
@@ -114,7 +114,7 @@ fn outcomes_told(
     let classes = &found.classes;
     let name = name_of(alloc, paths)?;
     let ranks = ranks_of(alloc, wanted.ranks, &classes.told.stretches)?;
-    let levels = level_lines(alloc, spec)?;
+    let levels = levels_of(alloc, spec)?;
     let page = Page {
         path: name.as_str(),
         orders: spec.ranks(),
@@ -127,7 +127,7 @@ fn outcomes_told(
         is_filtered: classes.missing.is_some(),
         filters: "",
         missing: classes.missing,
-        level_lines: levels.as_slice(),
+        levels: &levels,
         expectations: &[],
         totals: classes.totals,
         rows: classes.rows.as_slice(),

@@ -4,6 +4,7 @@ ghost use Rattle.std.specs.Prelude.{◌≡◌, ◌<◌, ℕ, IfErr, IfOk, List, 
 ghost use Rattle.binding_model.specs.declared.tables.Table.{Table as Declared};
 ghost use Rattle.machine_model.specs.Start.{Started, start};
 ghost use Rattle.machine_model.specs.World.{World};
+ghost use Rattle.spec_levels.specs.Levels.{AreLevels};
 ghost use Rattle.spec_texts.specs.Texts.{Declares};
 ghost use Rattle.transcripts.specs.Counted.{failures_of};
 ghost use Rattle.class_rows.specs.Pages.{IsClassed};
@@ -32,6 +33,7 @@ use session_machine::RunError;
 use session_steps::StartError;
 use spec_binding::SpecFault;
 use spec_classes::{OrderClass, classes_of, serial_answers};
+use spec_levels::{LevelFault, Levels};
 use spec_schedules::Kind;
 use std::alloc::{AllocError, Global};
 use std::io::Write;
@@ -44,6 +46,8 @@ use wanted_classes::{WantedClasses, WantedSample};
 pub enum ClassesFault<'a> {
     /// The bytes are no spec file.
     Spec(SpecFault),
+    /// What the file says of levels is wrong.
+    Level(LevelFault),
     /// What is wanted can't be asked of the spec.
     Asked(AskedFault<'a>),
     /// The orders were not run: the spec does not start, or memory ran out.
@@ -273,20 +277,22 @@ fn tell<'a, W: Write>(
 ) -> Result<Finding, ClassesFault<'a>>
     requires fresh { failures_of out.old < u64.MAX }
     requires tables { Declares asked.now.spec.text asked.now.spec asked.now.tables.items }
+    requires levels { AreLevels asked.now.spec.text asked.now.spec asked.now.levels }
     requires found { AreCounted wanted.now.sample (kind_by wanted.now.all_orders) asked.now.tables.items asked.now.spec.run asked.now.asked.filters.items (grouping wanted.now.by_result) found.now }
     requires starts { (w : World) × (start asked.now.spec.run ≡ Started w) }
     ensures { (bytes : List ℕ) → IsAskedSpec bytes wanted.now asked.now → IsClassesRun W.contents out.old out.new bytes path.now wanted.now result }
 {
     let spec = &asked.spec;
     let tables = asked.tables.as_slice();
+    let levels = &asked.levels;
     let given = &asked.asked;
     let rows = found.rows.as_slice();
-    let orders = match orders_for(alloc, spec, tables, path, wanted.form, rows) {
+    let orders = match orders_for(alloc, spec, tables, levels, path, wanted.form, rows) {
         Ok(orders) => orders,
         Err(error) => return Err(ClassesFault::Run(error)),
     };
     write_classes(
-        alloc, spec, path, tables, wanted, given, found, &orders, out,
+        alloc, spec, path, tables, levels, wanted, given, found, &orders, out,
     )
 }
 
@@ -295,6 +301,7 @@ fn write_classes<'a, W: Write>(
     spec: &Spec,
     path: &str,
     tables: &[Table],
+    levels: &Levels,
     wanted: &WantedClasses<'a>,
     asked: &AskedClasses<'a>,
     found: &Classed,
@@ -303,10 +310,11 @@ fn write_classes<'a, W: Write>(
 ) -> Result<Finding, ClassesFault<'a>>
     requires fresh { failures_of out.old < u64.MAX }
     requires orders { HasOrders wanted.now.form spec.now.text path.now spec.now found.now.rows.items orders.now }
-    ensures { Writes W.contents out.old out.new (IsTextOf path.now spec.now tables.now wanted.now asked.now found.now) (IsFinding found.now.rows.items asked.now.expectations.items) result }
+    ensures { Writes W.contents out.old out.new (IsTextOf path.now spec.now tables.now levels.now wanted.now asked.now found.now) (IsFinding found.now.rows.items asked.now.expectations.items) result }
 {
-    let Ok((written, finding)) = told(alloc, spec, path, tables, wanted, asked, found, orders)
-    else {
+    let Ok((written, finding)) = told(
+        alloc, spec, path, tables, levels, wanted, asked, found, orders,
+    ) else {
         return Err(ClassesFault::NoMemory);
     };
     match out.write_all(written.bytes()) {

@@ -5,6 +5,7 @@ ghost use Rattle.bound_specs.specs.Spec.{ranks};
 ghost use Rattle.machine_model.specs.Start.{start};
 ghost use Rattle.order_classes.specs.declared.rows.ClassRow.{ClassRow};
 ghost use Rattle.session_machine.specs.Running.{IsNotRunBy};
+ghost use Rattle.spec_levels.specs.Levels.{AreLevels};
 ghost use Rattle.spec_texts.specs.Texts.{AreStepLines, Declares};
 ghost use Rattle.class_commands.specs.Opened.{AreOrdersOf, HasOrders, IsPageOf, IsWrittenAs, line, order_part, page_html};
 ghost use Rattle.class_commands.specs.OpenedParts.{IsPushed};
@@ -19,6 +20,7 @@ use order_classes::ClassRow;
 use page_texts::Part;
 use session_machine::RunError;
 use spec_commands::order_json;
+use spec_levels::Levels;
 use spec_texts::statement_texts;
 use std::alloc::{AllocError, Global};
 use wanted_classes::WantedForm;
@@ -31,12 +33,14 @@ pub(crate) fn orders_for(
     alloc: Global,
     spec: &Spec,
     tables: &[Table],
+    levels: &Levels,
     path: &str,
     form: WantedForm,
     rows: &[ClassRow],
 ) -> Result<Vec<u8>, RunError>
     requires ranks { All (λ (row : ClassRow). row.least < ranks spec.now.run) rows.now }
     requires tables { Declares spec.now.text spec.now tables.now }
+    requires levels { AreLevels spec.now.text spec.now levels.now }
     ensures orders { IfOk result (λ orders. HasOrders form spec.now.text path.now spec.now rows.now orders.items) }
     ensures refused { IfErr result (λ error. IsNotRunBy error (start spec.now.run)) }
 {
@@ -44,7 +48,7 @@ pub(crate) fn orders_for(
         WantedForm::Text => Ok(Vec::new(alloc)),
         WantedForm::Json => Ok(Vec::new(alloc)),
         WantedForm::Record => Ok(Vec::new(alloc)),
-        WantedForm::Html => first_orders(alloc, spec, tables, path, rows),
+        WantedForm::Html => first_orders(alloc, spec, tables, levels, path, rows),
     }
 }
 
@@ -53,18 +57,28 @@ fn first_orders(
     alloc: Global,
     spec: &Spec,
     tables: &[Table],
+    levels: &Levels,
     path: &str,
     rows: &[ClassRow],
 ) -> Result<Vec<u8>, RunError>
     requires ranks { All (λ (row : ClassRow). row.least < ranks spec.now.run) rows.now }
     requires tables { Declares spec.now.text spec.now tables.now }
+    requires levels { AreLevels spec.now.text spec.now levels.now }
     ensures orders { IfOk result (λ orders. AreOrdersOf spec.now.text path.now spec.now (take MAX_SHOWN rows.now) orders.items) }
     ensures refused { IfErr result (λ error. IsNotRunBy error (start spec.now.run)) }
 {
     let Ok(statements) = statement_texts(alloc, spec) else {
         return Err(RunError::NoMemory);
     };
-    orders_of(alloc, spec, tables, &statements, path, first_of(rows))
+    orders_of(
+        alloc,
+        spec,
+        tables,
+        &statements,
+        levels,
+        path,
+        first_of(rows),
+    )
 }
 
 /// The first classes, of which a page has orders.
@@ -83,11 +97,13 @@ fn orders_of(
     spec: &Spec,
     tables: &[Table],
     statements: &[Text],
+    levels: &Levels,
     path: &str,
     rows: &[ClassRow],
 ) -> Result<Vec<u8>, RunError>
     requires ranks { All (λ (row : ClassRow). row.least < ranks spec.now.run) rows.now }
     requires tables { Declares spec.now.text spec.now tables.now }
+    requires levels { AreLevels spec.now.text spec.now levels.now }
     requires statements { AreStepLines spec.now.text spec.now statements.now }
     ensures orders { IfOk result (λ orders. AreOrdersOf spec.now.text path.now spec.now rows.now orders.items) }
     ensures refused { IfErr result (λ error. IsNotRunBy error (start spec.now.run)) }
@@ -99,6 +115,7 @@ fn orders_of(
             spec,
             tables,
             statements,
+            levels,
             path,
             row.least,
             &mut orders,
@@ -116,17 +133,19 @@ fn push_order(
     spec: &Spec,
     tables: &[Table],
     statements: &[Text],
+    levels: &Levels,
     path: &str,
     rank: u64,
     orders: &mut Vec<u8>,
 ) -> Result<(), RunError>
     requires rank { rank < ranks spec.now.run }
     requires tables { Declares spec.now.text spec.now tables.now }
+    requires levels { AreLevels spec.now.text spec.now levels.now }
     requires statements { AreStepLines spec.now.text spec.now statements.now }
     ensures pushed { OnOk result (IsPushed spec.now.text path.now spec.now rank orders.old.items orders.new.items) }
     ensures refused { IfErr result (λ error. IsNotRunBy error (start spec.now.run)) }
 {
-    let json = match order_json(alloc, spec, tables, statements, path, rank) {
+    let json = match order_json(alloc, spec, tables, statements, levels, path, rank) {
         Ok(json) => json,
         Err(error) => return Err(error),
     };

@@ -21,7 +21,7 @@ use class_rows::Classed;
 use class_texts::{ClassKind, Expected, Looked, Page, one_row_is_met};
 use events::Event;
 use order_classes::{ClassRow, Filter};
-use spec_texts::level_lines;
+use spec_levels::Levels;
 use std::alloc::{AllocError, Global};
 use wanted_classes::{WantedClasses, WantedSample};
 
@@ -31,20 +31,20 @@ pub(crate) fn told<'a>(
     spec: &Spec,
     path: &str,
     tables: &[Table],
+    levels: &Levels,
     wanted: &WantedClasses<'a>,
     asked: &AskedClasses<'a>,
     found: &Classed,
     orders: &[u8],
 ) -> Result<(Written, Finding), AllocError>
     requires { HasOrders wanted.now.form spec.now.text path.now spec.now found.now.rows.items orders.now }
-    ensures text { IfOk result (λ x. IsTextOf path.now spec.now tables.now wanted.now asked.now found.now (written_bytes x.0)) }
+    ensures text { IfOk result (λ x. IsTextOf path.now spec.now tables.now levels.now wanted.now asked.now found.now (written_bytes x.0)) }
     ensures finding { IfOk result (λ x. IsFinding found.now.rows.items asked.now.expectations.items x.1) }
 {
     one_row_is_met();
     let rows = found.rows.as_slice();
     let looks = looks_over(alloc, asked.looks.as_slice(), rows)?;
     let expectations = expectations_over(alloc, asked.expectations.as_slice(), rows)?;
-    let levels = level_lines(alloc, spec)?;
     let wanted_filters = wanted.all_filters(alloc)?;
     let filters = filters_text(alloc, wanted_filters.as_slice())?;
     let page = Page {
@@ -59,7 +59,7 @@ pub(crate) fn told<'a>(
         is_filtered: has_some(asked.filters.as_slice()),
         filters: filters.as_str(),
         missing: None,
-        level_lines: levels.as_slice(),
+        levels,
         expectations: expectations.as_slice(),
         totals: found.totals,
         rows,

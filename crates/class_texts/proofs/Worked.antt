@@ -6,6 +6,7 @@ use Rattle.std.specs.Char.{encode_utf8}
 use Rattle.lock_modes.specs.declared.value.Value.{Value}
 use Rattle.lock_modes.specs.declared.value.Value.TheVariants.{Int, Text}
 use Rattle.binding_model.specs.declared.tables.Table.{Table}
+use Rattle.bound_statements.specs.declared.statement.Level.TheVariants.{Serializable, Committed}
 use Rattle.events.specs.declared.event.Fault.TheVariants.{Deadlock, Duplicate, OutOfRange}
 use Rattle.events.specs.declared.event.Event.{Event}
 use Rattle.events.specs.declared.event.Event.TheVariants as event
@@ -18,7 +19,8 @@ use Rattle.class_texts.specs.Beneath.{left_lines, margin, seen_text}
 use Rattle.class_texts.specs.Counted.{number_text}
 use Rattle.class_texts.specs.Expected.{expected_lines, meets}
 use Rattle.class_texts.specs.Orders.{step_word, step_words}
-use Rattle.class_texts.specs.Pages.{Page, interval_text, missing_text, page_bytes, share_text}
+use Rattle.class_texts.specs.Pages.{Page, head_lines as lines_of_head, interval_text, missing_text, page_bytes, share_text}
+use Rattle.class_texts.specs.Records.{head_lines as lines_of_record, level_line}
 use Rattle.class_texts.specs.declared.kind.ClassKind.TheVariants.{Shows, Answers, Outcomes}
 
 -- ---- numbers
@@ -95,7 +97,8 @@ without_blocks = record {
   is_filtered = false;
   filters = [];
   missing = None;
-  level_lines = [];
+  level = None;
+  other_lines = [];
   expectations = [];
   totals = record {
     all = total 6 3;
@@ -149,7 +152,8 @@ of_all = record without_blocks {
   steps = codes "a1" ∷ codes "a2" ∷ codes "a3" ∷ codes "b1" ∷ codes "b2" ∷ codes "b3" ∷ [];
   is_filtered = true;
   filters = codes "--deadlock=a --no-error";
-  level_lines = 8 ∷ 14 ∷ [];
+  level = None;
+  other_lines = 8 ∷ 14 ∷ [];
   totals = record {
     all = total 12000 1;
     waits = total 12000 1;
@@ -201,6 +205,36 @@ of_all_page : page_bytes of_all ≡ flat_map line (
 unfolding chars digits encode_utf8 margin
 of_all_page = refl
 
+-- ---- levels that are asked for
+
+-- no line has another level
+committed_head : lines_of_head (record without_blocks { level = Some Committed })
+    ≡ codes "lost_update_without_blocks.spec: 6 orders in 3 classes" ∷ codes "isolation level: READ COMMITTED" ∷ []
+unfolding chars digits
+committed_head = refl
+
+committed_but_for_two : lines_of_head (record without_blocks { level = Some Committed; other_lines = 8 ∷ 10 ∷ [] })
+    ≡ codes "lost_update_without_blocks.spec: 6 orders in 3 classes" ∷ codes "isolation level: READ COMMITTED; SERIALIZABLE (lines 8, 10)" ∷ []
+unfolding chars digits
+committed_but_for_two = refl
+
+serializable_but_for_one : lines_of_head (record without_blocks { level = Some Serializable; other_lines = 7 ∷ [] })
+    ≡ codes "lost_update_without_blocks.spec: 6 orders in 3 classes" ∷ codes "isolation level: SERIALIZABLE; READ COMMITTED (line 7)" ∷ []
+unfolding chars digits
+serializable_but_for_one = refl
+
+-- ---- the heads of records
+
+record_head : lines_of_record (record without_blocks { level = Some Committed; other_lines = 8 ∷ 10 ∷ [] })
+    ≡ codes "isofarm record 1" ∷ codes "spec lost_update_without_blocks.spec" ∷ codes "level read-committed" ∷ codes "orders 6"
+    ∷ codes "W 0  D 0  E 0  S 0  R 4" ∷ []
+unfolding chars digits
+record_head = refl
+
+level_lines : level_line (Some Serializable) [] ∷ level_line None [] ∷ level_line None (8 ∷ []) ∷ []
+    ≡ codes "level serializable" ∷ codes "locking strict two-phase" ∷ codes "locking strict two-phase; isolation levels have no effect" ∷ []
+level_lines = refl
+
 -- ---- results, of a spec with permutation lines
 
 abbrev lined : Page
@@ -210,7 +244,8 @@ lined = record of_all {
   by = Answers;
   filters = [];
   is_filtered = false;
-  level_lines = 3 ∷ [];
+  level = None;
+  other_lines = 3 ∷ [];
   totals = record {
     all = total 1 1;
     waits = total 1 1;

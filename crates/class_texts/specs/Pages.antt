@@ -2,6 +2,7 @@
 use Rattle.std.specs.Prelude.{ℕ, ◌+◌, ◌-◌, ◌*◌, ◌/◌, ◌%◌, ◌^◌, max, min, nat_lt, Bool, cond, ◌&&◌, ◌||◌, not, ◌==◌}
 use Rattle.std.specs.Prelude.{List, [], ◌∷◌, ◌++◌, length, map, get_or, codes, decimal, flat_map, Option, Some, None, is_some}
 use Rattle.binding_model.specs.declared.tables.Table.{Table}
+use Rattle.bound_statements.specs.declared.statement.Level.{Level}
 use Rattle.events.specs.declared.event.Event.{Event}
 use Rattle.order_classes.specs.declared.rows.ClassRow.{ClassRow}
 use Rattle.order_classes.specs.declared.rows.Total.{Total}
@@ -28,8 +29,8 @@ use Rattle.class_texts.specs.declared.widths.TotalWidths.{TotalWidths}
 -- what a page is made of: the path of the spec and how many orders it has, of all permutations or of those alone that clients can send, or how many were
 -- drawn, and by which seed; the names of
 -- sessions and of steps, and the declared tables; by what orders are grouped, whether these are not all orders, by which filters, and which are missing; the
--- lines of the file with a level that has no effect; what is expected; the totals and the classes; and whether the totals are told alone. Of each class what
--- else is told: its ranks, its outcome, its final rows, and what queries see of these
+-- level that is asked for, if any, and the lines of the file with another one; what is expected; the totals and the classes; and whether the totals are told
+-- alone. Of each class what else is told: its ranks, its outcome, its final rows, and what queries see of these
 pub record Page : Type 0 where
   pub path : List ℕ
   pub orders : ℕ
@@ -42,7 +43,8 @@ pub record Page : Type 0 where
   pub is_filtered : Bool
   pub filters : List ℕ
   pub missing : Option Missing
-  pub level_lines : List ℕ
+  pub level : Option Level
+  pub other_lines : List ℕ
   pub expectations : List Expectation
   pub totals : Totals
   pub rows : List ClassRow
@@ -182,7 +184,7 @@ abbrev pub sample_line : Page → List (List ℕ)
 sample_line p = cond (is_some p.sample && nat_lt 0 p.totals.all.orders) (unseen_line p.totals.all.orders p.rows ∷ []) []
 
 abbrev pub head_lines : Page → List (List ℕ)
-head_lines p = title p ∷ (level_text p.level_lines ++ (books_line p.by ++ sample_line p))
+head_lines p = title p ∷ (level_text p.level p.other_lines ++ (books_line p.by ++ sample_line p))
 
 abbrev pub expectations_lines : Page → List (List ℕ)
 expectations_lines p = flat_map (expected_lines p.steps (is_some p.sample) p.totals.all.orders p.rows) p.expectations

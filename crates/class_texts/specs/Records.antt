@@ -1,5 +1,6 @@
 -- Records: what a spec's orders come to, in a text that is kept beside the spec and compared.
 use Rattle.std.specs.Prelude.{ℕ, ◌+◌, ◌-◌, nat_lt, false, cond, List, [], ◌∷◌, ◌++◌, length, take, get_or, codes, decimal, flat_map, Option, Some, None}
+use Rattle.bound_statements.specs.declared.statement.Level.{Level}
 use Rattle.events.specs.declared.event.Event.{Event}
 use Rattle.order_classes.specs.declared.rows.ClassRow.{ClassRow}
 use Rattle.order_classes.specs.declared.rows.Total.{Total}
@@ -7,6 +8,7 @@ use Rattle.order_classes.specs.declared.rows.Totals.{Totals}
 use Rattle.order_classes.specs.Letters.{Answers, answers_of}
 use Rattle.shown_texts.specs.Characters.{shown_text}
 use Rattle.shown_texts.specs.Lanes.{words}
+use Rattle.shown_values.specs.Levels.{level_word}
 use Rattle.class_texts.specs.Beneath.{tables_from}
 use Rattle.class_texts.specs.Counted.{counted, number_text}
 use Rattle.class_texts.specs.Letters.{letters_of, sign, total_of}
@@ -33,9 +35,18 @@ abbrev pub letters_line : Totals → List Letter → List ℕ
 letters_line totals [] = []
 letters_line totals (letter ∷ letters) = letter_total totals letter ++ flat_map (behind_blanks totals) letters
 
+-- where no level is asked for, by the lines of the file that have one
 abbrev pub locking_line : List ℕ → List ℕ
 locking_line [] = codes "locking strict two-phase"
 locking_line (n ∷ ns) = codes "locking strict two-phase; isolation levels have no effect"
+
+abbrev pub asked_line : Level → List ℕ
+asked_line level = codes "level " ++ level_word level
+
+-- how rows are locked
+abbrev pub level_line : Option Level → List ℕ → List ℕ
+level_line None ns = locking_line ns
+level_line (Some level) ns = asked_line level
 
 abbrev pub spec_line : List ℕ → List ℕ
 spec_line path = codes "spec " ++ shown_text path
@@ -47,7 +58,7 @@ abbrev pub totals_line : Totals → List ℕ
 totals_line totals = letters_line totals (letters_of Shows false)
 
 abbrev pub head_lines : Page → List (List ℕ)
-head_lines p = codes "isofarm record 1" ∷ spec_line p.path ∷ locking_line p.level_lines ∷ orders_line p.orders ∷ totals_line p.totals ∷ []
+head_lines p = codes "isofarm record 1" ∷ spec_line p.path ∷ level_line p.level p.other_lines ∷ orders_line p.orders ∷ totals_line p.totals ∷ []
 
 -- ---- results
 

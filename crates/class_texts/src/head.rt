@@ -274,7 +274,7 @@ pub(crate) fn head_lines(alloc: Global, page: &Page<'_>) -> Result<Items<Items<c
 {
     let mut lines = Items::new(alloc);
     lines.push(title(alloc, page)?)?;
-    lines.append(level_text(alloc, page.level_lines)?)?;
+    lines.append(level_text(alloc, page.levels)?)?;
     put_books(alloc, &mut lines, page.by)?;
     put_sample(alloc, &mut lines, page)?;
     Ok(lines)

@@ -7,6 +7,7 @@ use binding_model::Table;
 use class_stretches::{Missing, RankRun};
 use lock_modes::Text;
 use order_classes::{ClassRow, Totals};
+use spec_levels::Levels;
 use sqlite_items::Items;
 use std::marker::Model;
 
@@ -35,8 +36,8 @@ pub struct Page<'a> {
     pub filters: &'a str,
     /// The orders that are missing, where any are.
     pub missing: Option<Missing>,
-    /// The lines of the file with an isolation level that has no effect.
-    pub level_lines: &'a [usize],
+    /// Under which level the spec stands.
+    pub levels: &'a Levels,
     /// What is expected of the orders.
     pub expectations: &'a [Expected<'a>],
     /// How many orders and classes show what. Those of the page are `totals.all`.
@@ -82,7 +83,8 @@ impl<'a> Model for Page<'a> {
       is_filtered = p.is_filtered;
       filters = p.filters.now;
       missing = p.missing;
-      level_lines = p.level_lines.now;
+      level = p.levels.now.asked;
+      other_lines = p.levels.now.other_lines.items;
       expectations = p.expectations.now;
       totals = p.totals;
       rows = p.rows.now;

@@ -12,11 +12,14 @@ use crate::letters::{Letter, letters_of};
 use crate::orders::put_order;
 use crate::page::Page;
 use crate::totals::line_of;
+use bound_statements::Level;
 use events::{Event, Transcript};
 use itoa::Buffer;
 use lock_modes::Text;
 use order_classes::{ClassRow, Shows, Total, Totals, answers_of};
 use shown_texts::{push_lines, put, put_line, put_shown, words_of};
+use shown_values::level_word;
+use spec_levels::Levels;
 use sqlite_items::Items;
 use std::alloc::{AllocError, Global};
 
@@ -69,10 +72,10 @@ fn letters_line(
     }
 }
 
-fn locking_text(levels: &[usize]) -> &'static str
-    ensures { result.now ≡ spec.locking_line levels.now }
+fn locking_text(lines: &[usize]) -> &'static str
+    ensures { result.now ≡ spec.locking_line lines.now }
 {
-    match levels {
+    match lines {
         [] => "locking strict two-phase",
         [_, ..] => "locking strict two-phase; isolation levels have no effect",
     }
@@ -100,10 +103,28 @@ fn totals_line(alloc: Global, totals: Totals) -> Result<Items<char>, AllocError>
     letters_line(alloc, totals, letters_of(ClassKind::Shows, false))
 }
 
-fn locking_line(alloc: Global, levels: &[usize]) -> Result<Items<char>, AllocError>
-    ensures { IfOk result (λ line. line ≡ spec.locking_line levels.now) }
+fn locking_line(alloc: Global, lines: &[usize]) -> Result<Items<char>, AllocError>
+    ensures { IfOk result (λ line. line ≡ spec.locking_line lines.now) }
 {
-    line_of(alloc, locking_text(levels))
+    line_of(alloc, locking_text(lines))
+}
+
+fn asked_line(alloc: Global, level: Level) -> Result<Items<char>, AllocError>
+    ensures { IfOk result (λ line. line ≡ spec.asked_line level) }
+{
+    let mut line = line_of(alloc, "level ")?;
+    put(&mut line, level_word(level))?;
+    Ok(line)
+}
+
+/// The level that is asked for, or how rows are locked where none is.
+fn level_line(alloc: Global, levels: &Levels) -> Result<Items<char>, AllocError>
+    ensures { IfOk result (λ line. line ≡ spec.level_line levels.now.asked levels.now.other_lines.items) }
+{
+    match levels.asked {
+        None => locking_line(alloc, levels.other_lines.as_slice()),
+        Some(level) => asked_line(alloc, level),
+    }
 }
 
 fn head_lines(alloc: Global, page: &Page<'_>) -> Result<Items<Items<char>>, AllocError>
@@ -112,7 +133,7 @@ fn head_lines(alloc: Global, page: &Page<'_>) -> Result<Items<Items<char>>, Allo
     let mut lines = Items::new(alloc);
     lines.push(line_of(alloc, "isofarm record 1")?)?;
     lines.push(spec_line(alloc, page.path)?)?;
-    lines.push(locking_line(alloc, page.level_lines)?)?;
+    lines.push(level_line(alloc, page.levels)?)?;
     lines.push(orders_line(alloc, page.orders)?)?;
     lines.push(totals_line(alloc, page.totals)?)?;
     Ok(lines)

@@ -5,6 +5,7 @@ use Rattle.std.proofs.lemmas.List.Folds.{list_any-append}
 use Rattle.lock_modes.specs.declared.value.Value.{Value}
 use Rattle.events.specs.declared.event.Event.{Event}
 use Rattle.binding_model.specs.declared.tables.Table.{Table}
+use Rattle.bound_statements.specs.declared.statement.Level.{Level}
 use Rattle.class_stretches.specs.declared.rank_run.RankRun.{RankRun}
 use Rattle.order_classes.specs.declared.rows.ClassRow.{ClassRow}
 use Rattle.order_classes.specs.declared.rows.Total.{Total}
@@ -17,9 +18,10 @@ use Rattle.order_classes.specs.declared.shows.Rest.TheVariants.{HasEnded, IsOpen
 use Rattle.order_classes.specs.declared.shows.Shows.{Shows as Shown}
 use Rattle.shown_values.specs.Laws.{IsFree}
 use Rattle.shown_values.specs.Strings.{array_json, before_item, string_json}
+use Rattle.shown_values.specs.Levels.{levels_json}
 use Rattle.shown_values.specs.Words.{line_json}
 use Rattle.shown_values.specs.Page.{open_json, opens_by, step_json}
-use Rattle.shown_values.proofs.Markup.{EachFree, array-free, both, decimal-free, every, items-free, join-free, number-free, pair-free, step-free, string-free, table-free}
+use Rattle.shown_values.proofs.Markup.{EachFree, array-free, both, decimal-free, every, items-free, join-free, levels-free, number-free, pair-free, step-free, string-free, table-free}
 use Rattle.class_texts.specs.declared.letters.Letter.{Letter}
 use Rattle.class_texts.specs.declared.letters.Letter.TheVariants.{Waits, Deadlock, Error, Unsent, Stuck, NotSerial}
 use Rattle.class_texts.specs.Letters.{letters_of, letters_text}
@@ -33,7 +35,7 @@ use Rattle.class_values.specs.Totals.{letter_json, told_total, total_json, total
 use Rattle.class_values.specs.Expected.{expected_json, least_of, so_json, value_json, wanted_json}
 use Rattle.class_values.specs.Class.{class_at, class_json, classes_from, classes_part, head_json, left_part, lines_json, open_of, range_json}
 use Rattle.class_values.specs.Class.{ranks_part, rests_json, seen_json, shows_json, table_at, tables_from, tables_json}
-use Rattle.class_values.specs.Page.{asked_json, by_json, classes_json, counts_json, grouped_json, levels_json, look_json, missing_by, missing_json, numbers_json, sample_json}
+use Rattle.class_values.specs.Page.{asked_json, by_json, classes_json, counts_json, grouped_json, idle_json, levels_part, look_json, missing_by, missing_json, numbers_json, sample_json}
 
 -- one of two texts
 one-free : (b : Bool) (xs ys : List ℕ) → IsFree xs → IsFree ys → IsFree (cond b xs ys)
@@ -211,8 +213,13 @@ numbers-free p step_sessions statements =
       array-free step_json step-free (zip p.steps (zip step_sessions statements)),
     )
 
-levels-free : (p : Page) → IsFree (levels_json p)
-levels-free p = array-free decimal decimal-free p.level_lines
+idle-free : (level : Option Level) (lines : List ℕ) → IsFree (idle_json level lines)
+idle-free None lines = array-free decimal decimal-free lines
+idle-free (Some level) lines = refl
+
+levels-part-free : (p : Page) → IsFree (levels_part p)
+levels-part-free p =
+    both (levels_json p.level p.other_lines) (idle_json p.level p.other_lines) (levels-free p.level p.other_lines) (idle-free p.level p.other_lines)
 
 asked-free : (p : Page) → IsFree (asked_json p)
 asked-free p =
@@ -227,8 +234,8 @@ pub json-free : (p : Page) (step_sessions : List ℕ) (statements : List (List �
 json-free p step_sessions statements =
     let counts = counts_json p in
     let numbers = numbers_json p step_sessions statements in
-    both (counts ++ numbers ++ levels_json p ++ grouped_json p ++ classes_part p) (codes "}\n")
-    (both (counts ++ numbers ++ levels_json p ++ grouped_json p) (classes_part p)
-    (both (counts ++ numbers ++ levels_json p) (grouped_json p)
-    (both (counts ++ numbers) (levels_json p) (both counts numbers (counts-free p) (numbers-free p step_sessions statements)) (levels-free p))
+    both (counts ++ numbers ++ levels_part p ++ grouped_json p ++ classes_part p) (codes "}\n")
+    (both (counts ++ numbers ++ levels_part p ++ grouped_json p) (classes_part p)
+    (both (counts ++ numbers ++ levels_part p) (grouped_json p)
+    (both (counts ++ numbers) (levels_part p) (both counts numbers (counts-free p) (numbers-free p step_sessions statements)) (levels-part-free p))
     (grouped-free p)) (part-free p)) refl

@@ -4,6 +4,7 @@ use Rattle.std.specs.Fmt.{digits}
 use Rattle.json.specs.Print.{escape_byte}
 use Rattle.lock_modes.specs.declared.value.Value.TheVariants.{Int, Text}
 use Rattle.events.specs.declared.event.Event.TheVariants.{Sent, Row, Rows, Updated, Waiting, Done}
+use Rattle.bound_statements.specs.declared.statement.Level.TheVariants.{Serializable, Committed}
 use Rattle.order_classes.specs.declared.rows.ClassRow.{ClassRow}
 use Rattle.order_classes.specs.declared.rows.Letters.{Letters}
 use Rattle.order_classes.specs.declared.rows.Total.{Total}
@@ -16,7 +17,7 @@ use Rattle.class_values.specs.Totals.{totals_json}
 use Rattle.class_values.specs.Expected.{expected_json}
 use Rattle.class_values.specs.Labels.{label}
 use Rattle.class_values.specs.Class.{left_part}
-use Rattle.class_values.specs.Page.{classes_json, counts_json, missing_by}
+use Rattle.class_values.specs.Page.{classes_json, counts_json, levels_part, missing_by}
 
 abbrev total : ℕ → ℕ → Total
 total orders classes = record { orders = orders; classes = classes }
@@ -77,7 +78,8 @@ two_orders = record {
   is_filtered = false;
   filters = [];
   missing = None;
-  level_lines = [];
+  level = None;
+  other_lines = [];
   expectations = one_row ∷ [];
   totals = record {
     all = total 2 2;
@@ -175,7 +177,8 @@ one_step = record {
   is_filtered = false;
   filters = [];
   missing = None;
-  level_lines = 3 ∷ 12 ∷ [];
+  level = None;
+  other_lines = 3 ∷ 12 ∷ [];
   expectations = [];
   totals = record {
     all = total 1 1;
@@ -210,3 +213,25 @@ one_step_json : classes_json one_step (0 ∷ []) ([] ∷ [])
     ++ codes "\"final_rows\":[],\"open\":[],\"query_rows\":[]}]}\n"
 unfolding digits escaped escape_byte label
 one_step_json = refl
+
+-- ---- levels that are asked for, in the place of lines with a level that has no effect
+
+committed_but_for_two : levels_part (record one_step { level = Some Committed; other_lines = 8 ∷ 10 ∷ [] })
+    ≡ codes ",\"levels\":{\"default\":\"read-committed\",\"other_lines\":[8,10]},\"level_lines\":[]"
+unfolding digits
+committed_but_for_two = refl
+
+serializable_alone : levels_part (record one_step { level = Some Serializable; other_lines = [] })
+    ≡ codes ",\"levels\":{\"default\":\"serializable\",\"other_lines\":[]},\"level_lines\":[]"
+serializable_alone = refl
+
+-- it stands behind the steps
+committed_step_json : classes_json (record one_step { level = Some Committed; other_lines = 3 ∷ [] }) (0 ∷ []) ([] ∷ [])
+    ≡ codes "{\"format\":2,\"name\":\"one.spec\",\"orders\":1,\"asked\":1,\"sessions\":[\"a\"],"
+    ++ codes "\"steps\":[{\"name\":\"s\",\"session\":0,\"sql\":\"\"}],"
+    ++ codes "\"levels\":{\"default\":\"read-committed\",\"other_lines\":[3]},\"level_lines\":[],\"by\":\"shows\","
+    ++ codes "\"totals\":{\"W\":[0,0],\"D\":[0,0],\"E\":[0,0],\"N\":null,\"S\":[0,0],\"R\":[0,0]},\"expectations\":[],\"queries\":[],"
+    ++ codes "\"classes\":[{\"first_rank\":0,\"orders\":1,\"letters\":\".....\",\"order\":[0],\"transcripts\":[[\"step s\",\"done\"]],"
+    ++ codes "\"final_rows\":[],\"open\":[],\"query_rows\":[]}]}\n"
+unfolding digits escaped escape_byte label
+committed_step_json = refl

@@ -1,10 +1,12 @@
 -- The JSON of classes.
 use Rattle.std.specs.Prelude.{ℕ, List, [], ◌++◌, Option, Some, None, codes, decimal, zip}
+use Rattle.bound_statements.specs.declared.statement.Level.{Level}
 use Rattle.class_texts.specs.declared.kind.ClassKind.{ClassKind}
 use Rattle.class_texts.specs.declared.kind.ClassKind.TheVariants.{Shows, Answers, Outcomes}
 use Rattle.class_stretches.specs.declared.missing.Missing.{Missing}
 use Rattle.order_classes.specs.declared.rows.ClassRow.{ClassRow}
 use Rattle.shown_values.specs.Strings.{array_json, string_json}
+use Rattle.shown_values.specs.Levels.{levels_json}
 use Rattle.shown_values.specs.Page.{step_json}
 use Rattle.class_texts.specs.Beneath.{Look}
 use Rattle.class_texts.specs.Pages.{Page, seen_once}
@@ -46,9 +48,17 @@ numbers_json p step_sessions statements =
     (codes ",\"sessions\":" ++ array_json string_json p.sessions)
     ++ (codes ",\"steps\":" ++ array_json step_json (zip p.steps (zip step_sessions statements)))
 
--- the lines of the file with a level that has no effect
-abbrev pub levels_json : Page → List ℕ
-levels_json p = codes ",\"level_lines\":" ++ array_json decimal p.level_lines
+-- the lines of the file with a level that has no effect: none where one is asked for
+abbrev pub idle_json : Option Level → List ℕ → List ℕ
+idle_json None lines = codes ",\"level_lines\":" ++ array_json decimal lines
+idle_json (Some level) lines = codes ",\"level_lines\":[]"
+
+-- the level that is asked for, or those lines
+abbrev pub level_members : Option Level → List ℕ → List ℕ
+level_members level lines = levels_json level lines ++ idle_json level lines
+
+abbrev pub levels_part : Page → List ℕ
+levels_part p = level_members p.level p.other_lines
 
 abbrev pub by_json : ClassKind → List ℕ
 by_json Shows = codes "\"shows\""
@@ -70,4 +80,4 @@ grouped_json p = (codes ",\"by\":" ++ by_json p.by) ++ (codes ",\"totals\":" ++ 
 -- the whole, by the session and the statements of each step
 abbrev pub classes_json : Page → List ℕ → List (List ℕ) → List ℕ
 classes_json p step_sessions statements =
-    counts_json p ++ numbers_json p step_sessions statements ++ levels_json p ++ grouped_json p ++ classes_part p ++ codes "}\n"
+    counts_json p ++ numbers_json p step_sessions statements ++ levels_part p ++ grouped_json p ++ classes_part p ++ codes "}\n"

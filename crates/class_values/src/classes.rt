@@ -1,6 +1,6 @@
 //! The JSON of classes.
 
-ghost use Rattle.std.specs.Prelude.{◌≡◌, ◌++◌, IfOk, OnOk, Some, decimal};
+ghost use Rattle.std.specs.Prelude.{◌≡◌, ◌++◌, IfOk, OnOk, Some};
 ghost use Rattle.shown_values.specs.Strings.{array_json};
 ghost use Rattle.class_values.specs.Page as spec;
 
@@ -11,10 +11,13 @@ use crate::sheet::Sheet;
 use crate::totals::push_totals;
 use class_stretches::Missing;
 use class_texts::{ClassKind, Looked, Page, seen_once};
-use itoa::Buffer;
 use lock_modes::Text;
 use order_classes::ClassRow;
-use shown_values::{push, push_before, push_count, push_names, push_steps, push_string, push_word};
+use shown_values::{
+    push, push_before, push_count, push_levels, push_line_numbers, push_names, push_steps,
+    push_string, push_word,
+};
+use spec_levels::Levels;
 use std::alloc::{AllocError, Global};
 
 /// The JSON of classes: one object without spaces, and a line feed. It fails for want of memory alone.
@@ -24,7 +27,7 @@ pub fn classes_json(alloc: Global, sheet: &Sheet<'_>) -> Result<Vec<u8>, AllocEr
     let mut out = Vec::new(alloc);
     push_counts(sheet.page, &mut out)?;
     push_numbers(sheet.page, sheet.step_sessions, sheet.statements, &mut out)?;
-    push_levels(sheet.page, &mut out)?;
+    push_levels_of(sheet.page, &mut out)?;
     push_grouped(sheet.page, &mut out)?;
     push_classes(sheet.page, &mut out)?;
     push("}\n", &mut out)?;
@@ -113,23 +116,30 @@ fn push_numbers(
     push_steps(",\"steps\":", page.steps, step_sessions, statements, out)
 }
 
-/// Pushes the lines of the file with an isolation level that has no effect.
-fn push_levels(page: &Page<'_>, out: &mut Vec<u8>) -> Result<(), AllocError>
-    ensures { OnOk result (out.new.items ≡ out.old.items ++ spec.levels_json page.now) }
+/// Pushes under which level the spec stands.
+fn push_levels_of(page: &Page<'_>, out: &mut Vec<u8>) -> Result<(), AllocError>
+    ensures { OnOk result (out.new.items ≡ out.old.items ++ spec.levels_part page.now) }
 {
-    push_level_lines(",\"level_lines\":", page.level_lines, out)
+    push_level_members(page.levels, out)
 }
 
-/// Pushes a label, and behind it these lines.
-fn push_level_lines(label: &str, lines: &[usize], out: &mut Vec<u8>) -> Result<(), AllocError>
-    ensures { OnOk result (out.new.items ≡ out.old.items ++ (label.now ++ array_json decimal lines.now)) }
+/// Pushes the level that is asked for, or the lines of the file with a level that has no effect.
+fn push_level_members(levels: &Levels, out: &mut Vec<u8>) -> Result<(), AllocError>
+    ensures { OnOk result (out.new.items
+        ≡ out.old.items ++ spec.level_members levels.now.asked levels.now.other_lines.items) }
 {
-    push_word(label, "[", out)?;
-    for (place, line) in lines.iter().enumerate() {
-        push_before(",", place, out)?;
-        push(Buffer::new().format(*line), out)?;
+    push_levels(levels, out)?;
+    push_idle(levels, out)
+}
+
+/// Pushes the lines of the file with a level that has no effect: none where a level is asked for.
+fn push_idle(levels: &Levels, out: &mut Vec<u8>) -> Result<(), AllocError>
+    ensures { OnOk result (out.new.items ≡ out.old.items ++ spec.idle_json levels.now.asked levels.now.other_lines.items) }
+{
+    match levels.asked {
+        None => push_line_numbers(",\"level_lines\":", levels.other_lines.as_slice(), out),
+        Some(_) => push(",\"level_lines\":[]", out),
     }
-    push("]", out)
 }
 
 /// Pushes by what the orders are grouped, and what is told of all of them.

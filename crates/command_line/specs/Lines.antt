@@ -155,6 +155,7 @@ pub record AsksForNoMore (wanted : WantedClasses) : Type 0 where
   pub no_outcomes : wanted.outcomes ≡ false
   pub no_final_rows : wanted.final_rows ≡ false
   pub as_text : wanted.form ≡ wanted_form.Text
+  pub no_level : wanted.level ≡ None
   pub usual_memory : wanted.memory ≡ DEFAULT_MEMORY
 
 -- the ranks from the first up to but not the end
@@ -174,7 +175,7 @@ AsksFor (One path rank) (asked.One p r) = (p.now ≡ path) × (r ≡ rank)
 AsksFor (Count path) (asked.Count p) = p.now ≡ path
 AsksFor (Rank path names) (asked.Rank p ns) = (p.now ≡ path) × (map (λ n. n.now) ns.items ≡ names)
 AsksFor (Order path rank) (asked.Order p r) = (p.now ≡ path) × (r ≡ rank)
-AsksFor (Show path order) (asked.Show p wanted json) = (p.now ≡ path) × IsWanted order wanted × (json ≡ false)
+AsksFor (Show path order) (asked.Show p wanted json level) = (p.now ≡ path) × IsWanted order wanted × (json ≡ false) × (level ≡ None)
 AsksFor (Classes path) (asked.Classes p wanted progress) = (p.now ≡ path) × AsksForNoMore wanted × (progress ≡ false)
 AsksFor (Run path first end) asked = RunsRanks path (range first end) asked
 AsksFor (RunAll path) asked = RunsRanks path wanted_ranks.All asked

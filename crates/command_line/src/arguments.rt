@@ -63,6 +63,8 @@ enum Form {
     Sample,
     /// `--name S`
     Seed,
+    /// `--name LEVEL`
+    Level,
     /// `--name FILE`
     File,
     /// `--name BOOK`, as often as wanted, in place of a spec.
@@ -255,6 +257,12 @@ pub const MEMORY: Word = Word {
     form: Form::Memory,
 };
 
+pub const LEVEL: Word = Word {
+    name: "level",
+    help: "Isolation level of transactions that name none",
+    form: Form::Level,
+};
+
 pub const FIRST: Word = Word {
     name: "FIRST",
     help: "The number of the first permutation",
@@ -370,7 +378,11 @@ static NOT_OF_BOOKS: &[&str] = &[
     "memory",
     "sample",
     "seed",
+    "level",
 ];
+
+/// The words for levels.
+static LEVELS: &[&str] = &["read-committed", "serializable"];
 
 /// What stands for a spec.
 static OF_SPEC: &[&str] = &["SPEC"];
@@ -400,6 +412,7 @@ fn formed<'a>(alloc: Global, word: &Word) -> Arg<'a> {
         Form::Memory => memory(alloc, word),
         Form::Sample => sample(alloc, word),
         Form::Seed => seed(alloc, word),
+        Form::Level => level(alloc, word),
         Form::File => file(alloc, word),
         Form::InPlaceOfSpec => books(alloc, word),
     }
@@ -501,6 +514,13 @@ fn seed<'a>(alloc: Global, word: &Word) -> Arg<'a> {
         .action(ArgAction::Set)
         .value_parser(value_parser!(u64))
         .default_value(DEFAULT_SEED_WORD)
+}
+
+fn level<'a>(alloc: Global, word: &Word) -> Arg<'a> {
+    named(alloc, word)
+        .value_name("LEVEL")
+        .action(ArgAction::Set)
+        .value_parser(LEVELS)
 }
 
 fn file<'a>(alloc: Global, word: &Word) -> Arg<'a> {

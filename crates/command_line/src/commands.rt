@@ -2,7 +2,7 @@
 
 use crate::arguments::{
     ACCEPTED, ALL_ORDERS, ANOMALY, BOOK, BOOKS, BRIEF, BY_RESULT, DEADLOCK, END, END_OF_ALL, ERROR,
-    EVERY, EXPECT, FINAL_ROWS, FIRST, FIRST_OF_ALL, HTML, JSON, JUNIT, LINES, MEMORY, NAMES,
+    EVERY, EXPECT, FINAL_ROWS, FIRST, FIRST_OF_ALL, HTML, JSON, JUNIT, LEVEL, LINES, MEMORY, NAMES,
     NO_ANOMALY, NO_DEADLOCK, NO_ERROR, NO_NOT_SENT, NO_STUCK, NO_WAITS, NOT_SENT, OF_BOOKS, ORDER,
     OUTCOMES, PROGRESS, QUERY, RANK, RANKS, SAMPLE, SEED, SHOW, SPEC, SPEC_OR_BOOKS, SPECS, STUCK,
     UPDATE, WAITS, WORKERS, Word, arg_of,
@@ -53,7 +53,7 @@ static COMMANDS: [Row; 15] = [
     Row {
         spelled: "show",
         about: "Prints what happens in one order, moment by moment, and why",
-        words: &[SPEC, ORDER, JSON],
+        words: &[SPEC, ORDER, JSON, LEVEL],
     },
     Row {
         spelled: "classes",
@@ -61,6 +61,7 @@ static COMMANDS: [Row; 15] = [
         words: &[
             SPEC_OR_BOOKS,
             ALL_ORDERS,
+            LEVEL,
             OF_BOOKS,
             WAITS,
             NO_WAITS,
@@ -127,7 +128,7 @@ static COMMANDS: [Row; 15] = [
     Row {
         spelled: "test",
         about: "Prints whether the classes of specs are as accepted, or how they differ",
-        words: &[SPECS, UPDATE, JUNIT, WORKERS],
+        words: &[SPECS, UPDATE, JUNIT, WORKERS, LEVEL],
     },
 ];
 

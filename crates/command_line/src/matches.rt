@@ -5,8 +5,10 @@ use crate::paths::Paths;
 use crate::ranks::WantedRanks;
 use crate::wanted::wanted_of;
 use crate::words::Asked;
+use bound_statements::Level;
 use clap::ArgMatches;
 use shard_board::Workers;
+use spec_levels::level_named;
 use std::alloc::{AllocError, Global};
 use wanted_classes::{
     WantedClasses, WantedExpectation, WantedFilter, WantedForm, WantedOutcomes, WantedSample,
@@ -93,9 +95,15 @@ fn show_of_words<'a>(
             path,
             order: wanted_of(Vec::from_slice(alloc, order)?),
             json: words.get_flag("json"),
+            level: level_of_words(words),
         })),
         None => Ok(None),
     }
+}
+
+/// The level that the words ask for.
+fn level_of_words(words: &ArgMatches<'_>) -> Option<Level> {
+    level_named(words.get_str("level")?)
 }
 
 fn classes_of_words<'a>(
@@ -144,6 +152,7 @@ fn classes_with<'a>(
             outcomes: words.get_flag("outcomes"),
             final_rows: words.get_flag("final-rows"),
             form: form_of_words(words),
+            level: level_of_words(words),
             memory: words.get_one::<u64>("memory")?,
         },
         progress: words.get_flag("progress"),
@@ -381,6 +390,7 @@ fn test_with<'a>(words: &ArgMatches<'a>, paths: Vec<&'a str>) -> Option<Asked<'a
         updates: words.get_flag("update"),
         junit: words.get_str("junit"),
         workers,
+        level: level_of_words(words),
     })
 }
 

@@ -184,6 +184,7 @@ fn wanted_line<'a>(
         path,
         order: wanted_of(words),
         json: false,
+        level: None,
     }))
 }
 
@@ -204,6 +205,7 @@ fn classes_line<'a>(alloc: Global, rest: &'a [String]) -> Option<Asked<'a>>
                 outcomes: false,
                 final_rows: false,
                 form: WantedForm::Text,
+                level: None,
                 memory: DEFAULT_MEMORY,
             },
             progress: false,

@@ -14,6 +14,7 @@ use crate::plain::plain_line;
 use crate::ranks::WantedRanks;
 use crate::renamed::renamed_in;
 use crate::wanted::Wanted;
+use bound_statements::Level;
 use clap::Error;
 use clap::error::ErrorKind;
 use shard_board::Workers;
@@ -64,11 +65,12 @@ pub enum Asked<'a> {
         path: &'a str,
         rank: u64,
     },
-    /// What happens in one order of the spec at a path, moment by moment, as text or as JSON.
+    /// What happens in one order of the spec at a path, moment by moment, as text or as JSON, at a level or at the one for which the file asks.
     Show {
         path: &'a str,
         order: Wanted<'a>,
         json: bool,
+        level: Option<Level>,
     },
     /// Orders of the spec at a path in classes, and whether it is told how far that is.
     Classes {
@@ -119,12 +121,14 @@ pub enum Asked<'a> {
         accepted: Vec<&'a str>,
         show: bool,
     },
-    /// The specs at one path or more, beside their accepted texts; whether these are to be as the specs are; and where a report is written.
+    /// The specs at one path or more, beside their accepted texts, at a level or each at the one for which its file asks; whether the accepted texts are
+    /// to be as the specs are; and where a report is written.
     Test {
         paths: Paths<'a>,
         updates: bool,
         junit: Option<&'a str>,
         workers: Workers,
+        level: Option<Level>,
     },
 }
 

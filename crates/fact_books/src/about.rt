@@ -1,6 +1,6 @@
 //! What a book keeps of its spec.
 
-ghost use Rattle.std.specs.Prelude.{◌≡◌, IfOk, string_bytes};
+ghost use Rattle.std.specs.Prelude.{◌≡◌, IfOk, None, string_bytes};
 ghost use Rattle.fact_books.specs.About.{FileOf, one_file_of, IsShapeOf};
 
 use bound_specs::Spec;
@@ -29,7 +29,9 @@ impl Drop for About {
 impl About {
     ghost use Rattle.fact_books.specs.Books.{IsAboutOf};
 
+    /// What is kept of a spec for which levels are not asked for, which its text alone tells.
     pub(crate) fn of(alloc: Global, spec: &Spec) -> Result<About, AllocError>
+        requires { spec.now.asked ≡ None }
         ensures { IfOk result (IsAboutOf spec.now) }
     {
         spec.known();

@@ -1,6 +1,6 @@
 //! Books.
 
-ghost use Rattle.std.specs.Prelude.{◌≡◌, IfOk};
+ghost use Rattle.std.specs.Prelude.{◌≡◌, IfOk, None};
 ghost use Rattle.bound_specs.specs.Binding.{IsFileOf};
 ghost use Rattle.fact_books.specs.Books.{empty_book, AllRecordable};
 
@@ -59,8 +59,9 @@ impl Model for Book {
 }
 
 impl Book {
-    /// The book of a spec without facts.
+    /// The book without facts of a spec for which levels are not asked for.
     pub fn empty(alloc: Global, spec: &Spec) -> Result<Book, AllocError>
+        requires { spec.now.asked ≡ None }
         ensures { IfOk result (λ book. book ≡ empty_book spec.now) }
     {
         let about = About::of(alloc, spec)?;

@@ -1,6 +1,6 @@
 //! Books of runs that come from elsewhere, as from a file.
 
-ghost use Rattle.std.specs.Prelude.{◌≡◌, ◌↔◌, IfOk, IsTrue, length};
+ghost use Rattle.std.specs.Prelude.{◌≡◌, ◌↔◌, IfOk, IsTrue, None, length};
 ghost use Rattle.rank_facts.specs.Swap.{leads_in};
 ghost use Rattle.fact_books.specs.Runs.{AllSound, IsRising, firsts};
 ghost use Rattle.fact_books.specs.Books.{AllRecordable, IsAbout, facts_in, file_of};
@@ -18,13 +18,15 @@ use std::alloc::{AllocError, Global};
 use std::sync::Arc;
 
 impl Book {
-    /// What runs say of the ranks of a spec, in the order of their first ranks. Each names its outcome by the number in the list.
+    /// What runs say of the ranks of a spec for which levels are not asked for, in the order of their first ranks. Each names its outcome by the number in
+    /// the list.
     pub fn of_runs(
         alloc: Global,
         spec: &Spec,
         outcomes: CompactOutcomes,
         runs: Vec<Run>,
     ) -> Result<Book, AllocError>
+        requires unasked { spec.now.asked ≡ None }
         requires rising { IsRising (firsts runs.items) }
         requires sound { AllSound (length outcomes) runs.items }
         requires recordable { EachRun (IsRecordableRun spec.now.run outcomes) runs.items }
@@ -39,9 +41,10 @@ impl Book {
         })
     }
 
-    /// The facts of a builder, which are of ranks of the spec.
+    /// The facts of a builder, which are of ranks of the spec, for which levels are not asked for.
     pub fn of_facts(alloc: Global, spec: &Spec, facts: Builder) -> Result<Book, AllocError>
-        requires { AllRecordable spec.now.run facts.facts }
+        requires unasked { spec.now.asked ≡ None }
+        requires recordable { AllRecordable spec.now.run facts.facts }
         ensures file { IfOk result (λ book. book.file ≡ spec.now) }
         ensures facts { IfOk result (λ book. book.facts ≡ facts.facts) }
     {

@@ -7,7 +7,7 @@ use mathlib.Core.Option.{some, some-injective}
 use lib.ListN.{get_elem?}
 use Rattle.bound_specs.specs.Spec.{Spec, SpecFile, ranks}
 use Rattle.bound_specs.specs.Binding.{IsFileOf}
-use Rattle.bound_specs.proofs.FileLemmas.{file-is-bound}
+use Rattle.bound_specs.proofs.FileLemmas.{file-always, file-is-bound}
 use Rattle.rank_facts.specs.Swap.{leads_in}
 use Rattle.rank_facts.specs.Values.{AllTrue}
 use Rattle.rank_facts.specs.declared.fact.Fact.{Fact}
@@ -162,7 +162,7 @@ module _ (bytes : List ℕ) (file : SpecFile) (is : IsFileOf bytes file) (job : 
     holds = h;
     reports = t;
     answers = subst (λ (f : SpecFile). AreAnswers f (ranks f.run) text) h.file_is (report-answers book own true-there text t);
-    serial = lines-serial file.run (file-is-bound bytes file is);
+    serial = lines-serial file.run (file-is-bound bytes file is) (file-always bytes file is);
   }
 
   -- a rank that was run is not told as missing

@@ -1,7 +1,8 @@
 -- What the sequential machine tells of a spec is serial.
 use Rattle.std.proofs.Common.{◌≡◌, refl, sym, ℕ, List, Option, Some, None}
+use Rattle.bound_specs.specs.Levels.{AskAlways}
 use Rattle.bound_specs.specs.Spec.{Spec, line_of, IsBound}
-use Rattle.bound_specs.proofs.FileLemmas.{file-is-bound}
+use Rattle.bound_specs.proofs.FileLemmas.{file-always, file-is-bound}
 use Rattle.machine_model.specs.Start.{Start, Started, SetupFailed, SessionSetupFailed, SessionSetupWaits, start}
 use Rattle.machine_model.specs.World.{send_all, outcome_of}
 use Rattle.serial_history.specs.Serial.{IsSerial}
@@ -15,14 +16,14 @@ some-same a b e = cc
 abbrev told_of : Spec → List ℕ → Start → Option (List (List Event))
 told_of spec line s = elim s [ Started w ↦ Some (outcome_of spec.sessions (send_all spec.steps w line)) | _ ↦ None ]
 
-pub lines-serial : (spec : Spec) → IsBound spec → AreSerial spec
-lines-serial spec bound r outcome e = at (start spec) refl e
+pub lines-serial : (spec : Spec) → IsBound spec → AskAlways spec → AreSerial spec
+lines-serial spec bound always r outcome e = at (start spec) refl e
   where
     at : (s : Start) → start spec ≡ s → told_of spec (line_of spec r) s ≡ Some outcome → IsSerial spec (line_of spec r) outcome
     at (Started w) is h = record {
       world = w;
       starts = is;
-      told = bound-serial spec w (line_of spec r) bound is;
+      told = bound-serial spec w (line_of spec r) bound always is;
       shown = bound-shown spec w (line_of spec r) bound is;
       outcome_is = some-same _ _ (sym h);
     }
@@ -31,4 +32,4 @@ lines-serial spec bound r outcome e = at (start spec) refl e
     at (SessionSetupWaits n) is h = cc
 
 pub outcomes-serial : OutcomesAreSerial
-outcomes-serial file is = lines-serial file.run (file-is-bound _ _ is)
+outcomes-serial file is = lines-serial file.run (file-is-bound _ _ is) (file-always _ _ is)

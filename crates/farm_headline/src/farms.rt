@@ -1,6 +1,6 @@
 //! How a caller uses the laws who has workers run plans by calls of his own and joins their books.
 
-ghost use Rattle.std.specs.Prelude.{◌<◌};
+ghost use Rattle.std.specs.Prelude.{◌≡◌, ◌<◌, None};
 ghost use Rattle.transcripts.specs.Counted.{failures_of};
 ghost use Rattle.farm_headline.specs.TwoFarms.{AreFarmed, AreFarmsReported};
 
@@ -17,7 +17,7 @@ use std::thread::Threads;
 use transcripts::Counted;
 
 /// Has workers run two plans of a spec, joins the two books and writes the report. That it tells of each rank what the sequential machine tells follows
-/// from the contracts of the calls by the laws alone.
+/// from the contracts of the calls by the laws alone. Levels are not asked for.
 pub fn report_of_two_farms<R: Threads + Wait + Sync, G: Gate + Sync, W: Write>(
     rt: &R,
     alloc: Global,
@@ -27,7 +27,8 @@ pub fn report_of_two_farms<R: Threads + Wait + Sync, G: Gate + Sync, W: Write>(
     gate: &G,
     out: &mut Counted<W>,
 ) -> Result<(), HeadlineFault>
-    requires { failures_of out.old < u64.MAX }
+    requires unasked { spec.now.asked ≡ None }
+    requires countable { failures_of out.old < u64.MAX }
     ensures { AreFarmsReported W.contents out.old out.new spec.now first.now second.now result }
 {
     runs_are_true();
@@ -52,6 +53,7 @@ fn book_of_two_farms<R: Threads + Wait + Sync, G: Gate + Sync>(
     second: &Plan,
     gate: &G,
 ) -> Result<Book, HeadlineFault>
+    requires unasked { spec.now.asked ≡ None }
     ensures { AreFarmed spec.now first.now second.now result }
 {
     runs_decide();

@@ -1,6 +1,6 @@
 //! All that the farm promises, as the contract of one call: from the bytes of a spec to its report, over any shards, joins and workers.
 
-ghost use Rattle.std.specs.Prelude.{◌≡◌, ◌<◌};
+ghost use Rattle.std.specs.Prelude.{◌≡◌, ◌<◌, None};
 ghost use Rattle.transcripts.specs.Counted.{failures_of};
 ghost use Rattle.fact_books.specs.Laws.{JoinsCommute, JoinsAssociate, JoinsRepeat};
 ghost use Rattle.farm_headline.specs.Headline.{AreRunsReported};
@@ -83,7 +83,7 @@ pub fn report_of_runs<R: Threads + Wait + Sync, G: Gate + Sync, W: Write>(
     }
 }
 
-/// The facts of the job and of all plans, in one book. The job is refused first, then the first plan that is.
+/// The facts of the job and of all plans, in one book. The job is refused first, then the first plan that is. Levels are not asked for.
 pub fn book_of_runs<R: Threads + Wait + Sync, G: Gate + Sync>(
     rt: &R,
     alloc: Global,
@@ -92,6 +92,7 @@ pub fn book_of_runs<R: Threads + Wait + Sync, G: Gate + Sync>(
     plans: &[Plan],
     gate: &G,
 ) -> Result<Book, HeadlineFault>
+    requires unasked { spec.now.asked ≡ None }
     ensures { AreRun spec.now job.now plans.now result }
 {
     let mut book = match make(alloc, spec, job) {
@@ -114,7 +115,8 @@ fn with_plan<R: Threads + Wait + Sync, G: Gate + Sync>(
     gate: &G,
     book: &Book,
 ) -> Result<Book, HeadlineFault>
-    requires { book.now.file ≡ spec.now }
+    requires unasked { spec.now.asked ≡ None }
+    requires of_spec { book.now.file ≡ spec.now }
     ensures { IsNextRun spec.now plan.now place book.now result }
 {
     match farmed(rt, alloc, spec, plan, place, gate) {
@@ -132,6 +134,7 @@ pub(crate) fn farmed<R: Threads + Wait + Sync, G: Gate + Sync>(
     place: usize,
     gate: &G,
 ) -> Result<Book, HeadlineFault>
+    requires unasked { spec.now.asked ≡ None }
     ensures { IsFarmed spec.now plan.now place result }
 {
     let farmed = farm_run(

@@ -1,7 +1,7 @@
 -- With which status the program ends.
 use Rattle.std.specs.Prelude.{ℕ}
 use Rattle.fault_texts.specs.declared.fault.ProgramFault.{ProgramFault}
-use Rattle.fault_texts.specs.declared.fault.ProgramFault.TheVariants.{Spec, Sql, Bind, Start, RankOutOfRange, Shard, Book, BookTooLarge, OtherSpec}
+use Rattle.fault_texts.specs.declared.fault.ProgramFault.TheVariants.{Spec, Sql, Bind, NoSuchLevel, SecondLevel, NotModelled, Start, RankOutOfRange, Shard, Book, BookTooLarge, OtherSpec}
 use Rattle.fault_texts.specs.declared.fault.ProgramFault.TheVariants.{NoStep, Twice, OutOfTurn, LeftOut, NoLine, NoSession, NoSerialOrders, TooManyStates, LookSql, LookBind, NotOneSelect, NoValue}
 use Rattle.fault_texts.specs.declared.fault.ProgramFault.TheVariants.{TooManyRanks, NoSpecs, TooManySpecs, Explained, Missing, Clash, NoMemory, Read, Write}
 
@@ -10,6 +10,9 @@ abbrev pub status_of : ProgramFault → ℕ
 status_of (Spec path kind offset) = 3
 status_of (Sql path kind offset) = 3
 status_of (Bind path kind offset) = 3
+status_of (NoSuchLevel path line) = 3
+status_of (SecondLevel path line) = 3
+status_of (NotModelled path line) = 3
 status_of (Start path kind number) = 3
 status_of (RankOutOfRange path) = 3
 status_of (NoStep path name) = 3

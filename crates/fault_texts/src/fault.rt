@@ -29,6 +29,24 @@ pub enum ProgramFault<'a> {
         kind: u8,
         offset: u64,
     },
+    /// A line of the spec asks for a level that there is not.
+    #[error("isofarm: {path}: no such level (line {line})")]
+    NoSuchLevel {
+        path: &'a str,
+        line: usize,
+    },
+    /// A second line of the spec asks for a level.
+    #[error("isofarm: {path}: a second level (line {line})")]
+    SecondLevel {
+        path: &'a str,
+        line: usize,
+    },
+    /// Where levels are asked for a transaction begins at one that is not modelled.
+    #[error("isofarm: {path}: REPEATABLE READ is not modelled (line {line})")]
+    NotModelled {
+        path: &'a str,
+        line: usize,
+    },
     /// The spec does not start. The number is that of the setup block or of the session.
     #[error("isofarm: {path}: start error {kind} at {number}")]
     Start {
@@ -185,6 +203,9 @@ impl ProgramFault<'_> {
             ProgramFault::Spec { .. }
             | ProgramFault::Sql { .. }
             | ProgramFault::Bind { .. }
+            | ProgramFault::NoSuchLevel { .. }
+            | ProgramFault::SecondLevel { .. }
+            | ProgramFault::NotModelled { .. }
             | ProgramFault::Start { .. }
             | ProgramFault::RankOutOfRange { .. }
             | ProgramFault::NoStep { .. }

@@ -56,11 +56,11 @@ let-go-held h = at (entries h) refl
 
 end-held : (b : Status) (h : Held) → LetsGoOfHeld h (end_changes b h)
 end-held Outside h = let-go-held h
-end-held InBlock h = tt
+end-held (InBlock of) h = tt
 end-held Broken h = tt
 
 did-held : (k : Kind) (h : Held) → LetsGoOfHeld h (did_changes k h)
-did-held Begins h = tt
+did-held (Begins level) h = tt
 did-held Commits h = let-go-held h
 did-held RollsBack h = let-go-held h
 did-held Works h = tt
@@ -123,17 +123,17 @@ worked-no-fault s rows (Gives events writes) d =
 worked-no-fault s rows (Faults f) d = tt
 
 perform_by-no-fault : (b : Status) (k : Kind) (s : Session) (rows : Rows') (st : Bound) → NoFault s.transcript (perform_by b k s rows st)
-perform_by-no-fault Outside Begins s rows st = fault-push s.transcript Began refl
-perform_by-no-fault InBlock Begins s rows st = two-push s.transcript (Warned AlreadyInBlock) Began refl refl
-perform_by-no-fault Broken Begins s rows st = tt
+perform_by-no-fault Outside (Begins level) s rows st = fault-push s.transcript Began refl
+perform_by-no-fault (InBlock of) (Begins level) s rows st = two-push s.transcript (Warned AlreadyInBlock) Began refl refl
+perform_by-no-fault Broken (Begins level) s rows st = tt
 perform_by-no-fault Outside Commits s rows st = two-push s.transcript (Warned NoBlock) Committed refl refl
-perform_by-no-fault InBlock Commits s rows st = fault-push s.transcript Committed refl
+perform_by-no-fault (InBlock of) Commits s rows st = fault-push s.transcript Committed refl
 perform_by-no-fault Broken Commits s rows st = fault-push s.transcript RolledBack refl
 perform_by-no-fault Outside RollsBack s rows st = two-push s.transcript (Warned NoBlock) RolledBack refl refl
-perform_by-no-fault InBlock RollsBack s rows st = fault-push s.transcript RolledBack refl
+perform_by-no-fault (InBlock of) RollsBack s rows st = fault-push s.transcript RolledBack refl
 perform_by-no-fault Broken RollsBack s rows st = fault-push s.transcript RolledBack refl
 perform_by-no-fault Outside Works s rows st = worked-no-fault s rows (effect st (lay s.overlay rows)) (effect-tells st (lay s.overlay rows))
-perform_by-no-fault InBlock Works s rows st = worked-no-fault s rows (effect st (lay s.overlay rows)) (effect-tells st (lay s.overlay rows))
+perform_by-no-fault (InBlock of) Works s rows st = worked-no-fault s rows (effect st (lay s.overlay rows)) (effect-tells st (lay s.overlay rows))
 perform_by-no-fault Broken Works s rows st = tt
 
 -- ---- a session goes
@@ -221,12 +221,12 @@ fault-along e i s rows task ts f stops =
 
 end-told : (b : Status) (s : Session) (rows : Rows') → tells_fault (finished_by b s rows).session.transcript ≡ tells_fault s.transcript
 end-told Outside s rows = fault-push s.transcript Done refl
-end-told InBlock s rows = fault-push s.transcript Done refl
+end-told (InBlock of) s rows = fault-push s.transcript Done refl
 end-told Broken s rows = fault-push s.transcript Done refl
 
 end-status : (b : Status) (s : Session) (rows : Rows') → (finished_by b s rows).session.status ≡ s.status
 end-status Outside s rows = refl
-end-status InBlock s rows = refl
+end-status (InBlock of) s rows = refl
 end-status Broken s rows = refl
 
 end-along : (e : Scene) (i : ℕ) (s : Session) (rows : Rows')
@@ -366,10 +366,10 @@ locks-asked steps = line-each steps (λ g. AreAskedBy steps g.world g.cause)
     (λ w k sound lt is.
     let i = (get_or steps k no_step).session in
     let ss = (get_or steps k no_step).statements in
-    let en = entering w i (note (session_at w i) (Sent k)) ss (steady-of w sound) lt is refl refl in
-    going-asked steps (record { world = w; cause = Sends k }) w (session_at w i).transcript (told_only (session_at w i) (Sent k)) (tasks_of ss)
+    let en = entering w i (note (session_at w i) (Sent k)) (session_at w i).status ss (steady-of w sound) lt is refl refl in
+    going-asked steps (record { world = w; cause = Sends k }) w (session_at w i).transcript (told_only (session_at w i) (Sent k)) (tasks_of (session_at w i).status ss)
     en.idle refl refl refl refl refl refl refl tt refl refl
-    (session-there w i (go (scene_of w) i (note (session_at w i) (Sent k)) w.rows (tasks_of ss)) lt))
+    (session-there w i (go (scene_of w) i (note (session_at w i) (Sent k)) w.rows (tasks_of (session_at w i).status ss)) lt))
     (λ w spot st h.
     let i = spot.wait.session in
     let v = without w spot in

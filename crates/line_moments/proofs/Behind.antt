@@ -73,8 +73,8 @@ moments-true steps = line-each steps (IsTrue steps)
     (λ w k sound lt is.
     let i = (get_or steps k no_step).session in
     let s = note (session_at w i) (Sent k) in
-    let ts = tasks_of (get_or steps k no_step).statements in
-    let en = entering w i s (get_or steps k no_step).statements (steady-of w sound) lt is refl refl in
+    let ts = tasks_of (session_at w (get_or steps k no_step).session).status (get_or steps k no_step).statements in
+    let en = entering w i s (session_at w i).status (get_or steps k no_step).statements (steady-of w sound) lt is refl refl in
     let first = goes-first w i (session_at w i) (Sent k) ts in
     record {
       steady = goes-steady w i s ts en;

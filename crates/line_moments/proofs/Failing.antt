@@ -116,7 +116,7 @@ module _ (x : Fault) (range-no : OutOfRange ≢ x) (duplicate-no : Duplicate ≢
       counted Deleted (map (λ (e : RowPlace × Tuple). record { place = e.0; left = None }) es)) (λ es. tt)
   effect-no (Lock t m n) rows = tt
   effect-no SetVariable rows = tt
-  effect-no Begin rows = tt
+  effect-no (Begin level) rows = tt
   effect-no Commit rows = tt
   effect-no Rollback rows = tt
 
@@ -160,25 +160,25 @@ module _ (x : Fault) (range-no : OutOfRange ≢ x) (duplicate-no : Duplicate ≢
   worked-none s rows (Faults f) d n = n
 
   perform_by-none : (b : Status) (k : Kind) (s : Session) (rows : Rows') (st : Bound) → NoneNew s.transcript (perform_by b k s rows st)
-  perform_by-none Outside Begins s rows st = lost-push s.transcript Began (λ e. cc)
-  perform_by-none InBlock Begins s rows st = λ m.
+  perform_by-none Outside (Begins level) s rows st = lost-push s.transcript Began (λ e. cc)
+  perform_by-none (InBlock of) (Begins level) s rows st = λ m.
       lost-push s.transcript (Warned AlreadyInBlock) (λ e. cc) (lost-push (s.transcript ++ Warned AlreadyInBlock ∷ []) Began (λ e. cc) m)
-  perform_by-none Broken Begins s rows st = aborted-no
+  perform_by-none Broken (Begins level) s rows st = aborted-no
   perform_by-none Outside Commits s rows st = λ m.
       lost-push s.transcript (Warned NoBlock) (λ e. cc) (lost-push (s.transcript ++ Warned NoBlock ∷ []) Committed (λ e. cc) m)
-  perform_by-none InBlock Commits s rows st = lost-push s.transcript Committed (λ e. cc)
+  perform_by-none (InBlock of) Commits s rows st = lost-push s.transcript Committed (λ e. cc)
   perform_by-none Broken Commits s rows st = lost-push s.transcript RolledBack (λ e. cc)
   perform_by-none Outside RollsBack s rows st = λ m.
       lost-push s.transcript (Warned NoBlock) (λ e. cc) (lost-push (s.transcript ++ Warned NoBlock ∷ []) RolledBack (λ e. cc) m)
-  perform_by-none InBlock RollsBack s rows st = lost-push s.transcript RolledBack (λ e. cc)
+  perform_by-none (InBlock of) RollsBack s rows st = lost-push s.transcript RolledBack (λ e. cc)
   perform_by-none Broken RollsBack s rows st = lost-push s.transcript RolledBack (λ e. cc)
   perform_by-none Outside Works s rows st = worked-none s rows _ (effect-tells st (lay s.overlay rows)) (effect-no st (lay s.overlay rows))
-  perform_by-none InBlock Works s rows st = worked-none s rows _ (effect-tells st (lay s.overlay rows)) (effect-no st (lay s.overlay rows))
+  perform_by-none (InBlock of) Works s rows st = worked-none s rows _ (effect-tells st (lay s.overlay rows)) (effect-no st (lay s.overlay rows))
   perform_by-none Broken Works s rows st = aborted-no
 
   finished-none : (b : Status) (s : Session) (rows : Rows') → Lost (finished_by b s rows).session.transcript → Lost s.transcript
   finished-none Outside s rows = lost-push s.transcript Done (λ e. cc)
-  finished-none InBlock s rows = lost-push s.transcript Done (λ e. cc)
+  finished-none (InBlock of) s rows = lost-push s.transcript Done (λ e. cc)
   finished-none Broken s rows = lost-push s.transcript Done (λ e. cc)
 
   -- ---- a session goes
@@ -303,7 +303,7 @@ module _ (x : Fault) (range-no : OutOfRange ≢ x) (duplicate-no : Duplicate ≢
       (λ w k sound lt is.
       let i = (get_or steps k no_step).session in
       going-told steps (record { world = w; cause = Sends k }) w (session_at w i).transcript (told_only (session_at w i) (Sent k))
-      (tasks_of (get_or steps k no_step).statements) (idle-each w.waits i is) (one-none (Sent k) (λ e. cc)) refl refl refl)
+      (tasks_of (session_at w (get_or steps k no_step).session).status (get_or steps k no_step).statements) (idle-each w.waits i is) (one-none (Sent k) (λ e. cc)) refl refl refl)
       (λ w spot st h.
       let i = spot.wait.session in
       going-told steps (record { world = w; cause = GoesOn spot }) (without w spot) (session_at w i).transcript (told_only (holding w spot) Resumed)

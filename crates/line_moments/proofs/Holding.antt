@@ -55,7 +55,7 @@ gone h = at (entries h) refl
 
 end-changed : (e : Scene) (b : Status) (s : Session) (rows : Rows') → changed s.held (end_changes b s.held) ≡ (finished_by b s rows).session.held
 end-changed e Outside s rows = gone s.held
-end-changed e InBlock s rows = refl
+end-changed e (InBlock of) s rows = refl
 end-changed e Broken s rows = refl
 
 abbrev pub HeldAfter : Held → Performed → Type 0
@@ -68,17 +68,17 @@ worked-changed s rows (Faults f) = tt
 
 pub did-changed : (b : Status) (k : Kind) (s : Session) (rows : Rows') (st : Bound)
     → HeldAfter (changed s.held (did_changes k s.held)) (perform_by b k s rows st)
-did-changed Outside Begins s rows st = refl
-did-changed InBlock Begins s rows st = refl
-did-changed Broken Begins s rows st = tt
+did-changed Outside (Begins level) s rows st = refl
+did-changed (InBlock of) (Begins level) s rows st = refl
+did-changed Broken (Begins level) s rows st = tt
 did-changed Outside Commits s rows st = gone s.held
-did-changed InBlock Commits s rows st = gone s.held
+did-changed (InBlock of) Commits s rows st = gone s.held
 did-changed Broken Commits s rows st = gone s.held
 did-changed Outside RollsBack s rows st = gone s.held
-did-changed InBlock RollsBack s rows st = gone s.held
+did-changed (InBlock of) RollsBack s rows st = gone s.held
 did-changed Broken RollsBack s rows st = gone s.held
 did-changed Outside Works s rows st = worked-changed s rows (effect st (lay s.overlay rows))
-did-changed InBlock Works s rows st = worked-changed s rows (effect st (lay s.overlay rows))
+did-changed (InBlock of) Works s rows st = worked-changed s rows (effect st (lay s.overlay rows))
 did-changed Broken Works s rows st = tt
 
 go-changed : (e : Scene) (i : ℕ) (s : Session) (rows : Rows') (ts : List Task) → changed s.held (go_changes e i s rows ts) ≡ (go e i s rows ts).session.held
@@ -140,7 +140,7 @@ pub sent-holds : (steps : List Step) (w : World) (k : ℕ) → (get_or steps k n
     → Holds w (behind_by steps w (Sends k)) (its_part (get_or steps k no_step).session (changes_by steps w (Sends k)))
 sent-holds steps w k lt =
     let i = (get_or steps k no_step).session in
-    let ts = tasks_of (get_or steps k no_step).statements in
+    let ts = tasks_of (session_at w (get_or steps k no_step).session).status (get_or steps k no_step).statements in
     put-holds w i (go (scene_of w) i (note (session_at w i) (Sent k)) w.rows ts).session (changes_by steps w (Sends k)) lt
     (run-changed w i (told_only (session_at w i) (Sent k)) ts)
 
@@ -198,7 +198,7 @@ send-holds steps w k sound lt = at (waits_now w.waits i) refl
         (settle_goings (left_to_do (behind_by steps w (Sends k))) (behind_by steps w (Sends k)))
         (sent-holds steps w k lt)
         (settle-holds steps (left_to_do (behind_by steps w (Sends k))) (behind_by steps w (Sends k))
-        (goes-steady w i (note (session_at w i) (Sent k)) (tasks_of ss) (entering w i (note (session_at w i) (Sent k)) ss (steady-of w sound) lt is refl refl)))
+        (goes-steady w i (note (session_at w i) (Sent k)) (tasks_of (session_at w i).status ss) (entering w i (note (session_at w i) (Sent k)) (session_at w i).status ss (steady-of w sound) lt is refl refl)))
 
 changes-append : (steps : List Step) (c : ℕ) (gs hs : List Going) → changes_to c (map (moment_of steps) (gs ++ hs))
     ≡ changes_to c (map (moment_of steps) gs) ++ changes_to c (map (moment_of steps) hs)

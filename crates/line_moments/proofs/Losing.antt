@@ -322,11 +322,11 @@ module _ (steps : List Step) (y : Refusal) (P : Scene → ℕ → Session → Ro
       let i = (get_or steps k no_step).session in
       let ss = (get_or steps k no_step).statements in
       let u = told_only (session_at w i) (Sent k) in (
-        go_changes (scene_of w) i u w.rows (tasks_of ss),
+        go_changes (scene_of w) i u w.rows (tasks_of (session_at w i).status ss),
         refl,
-        holds w i (note (session_at w i) (Sent k)) u (tasks_of ss) (go_changes (scene_of w) i u w.rows (tasks_of ss))
-            (entering w i (note (session_at w i) (Sent k)) ss (steady-of w sound) lt is refl refl)
-            (go-refused (scene_of w) i u w.rows (tasks_of ss) y e),
+        holds w i (note (session_at w i) (Sent k)) u (tasks_of (session_at w i).status ss) (go_changes (scene_of w) i u w.rows (tasks_of (session_at w i).status ss))
+            (entering w i (note (session_at w i) (Sent k)) (session_at w i).status ss (steady-of w sound) lt is refl refl)
+            (go-refused (scene_of w) i u w.rows (tasks_of (session_at w i).status ss) y e),
       ))
       (λ w spot st h e.
       let i = spot.wait.session in

@@ -57,7 +57,7 @@ line-last : (steps : List Step) (w : World) (ks : List ℕ) → Sound w → ((k 
 line-last steps = line-each steps (LastIs steps)
     (λ w k sound lt is c.
     let i = (get_or steps k no_step).session in
-    let ts = tasks_of (get_or steps k no_step).statements in
+    let ts = tasks_of (session_at w (get_or steps k no_step).session).status (get_or steps k no_step).statements in
     let s = note (session_at w i) (Sent k) in
     let r = go (scene_of w) i s w.rows ts in
     ⊎_elim

@@ -46,7 +46,7 @@ stands-by w c st None b is s = at b s
 
     at : (d : Status) → (session_at w c).status ≡ d → IsStanding w c (standing_by None d)
     at Outside e = (quiet, e)
-    at InBlock e = (quiet, e)
+    at (InBlock of) e = (quiet, (of, e))
     at Broken e = (quiet, e)
 
 pub standings-exact : StandingsAreExact

@@ -93,22 +93,22 @@ two-last : (t : List Event) (d e : Event) → sent_step d ≡ None → sent_step
 two-last t d e p q = last-push (t ++ d ∷ []) e q ∙ last-push t d p
 
 perform_by-last : (b : Status) (k : Kind) (s : Session) (rows : Rows') (st : Bound) → LastAfter s.transcript (perform_by b k s rows st)
-perform_by-last Outside Begins s rows st = last-push s.transcript Began refl
-perform_by-last InBlock Begins s rows st = two-last s.transcript (Warned AlreadyInBlock) Began refl refl
-perform_by-last Broken Begins s rows st = tt
+perform_by-last Outside (Begins level) s rows st = last-push s.transcript Began refl
+perform_by-last (InBlock of) (Begins level) s rows st = two-last s.transcript (Warned AlreadyInBlock) Began refl refl
+perform_by-last Broken (Begins level) s rows st = tt
 perform_by-last Outside Commits s rows st = two-last s.transcript (Warned NoBlock) Committed refl refl
-perform_by-last InBlock Commits s rows st = last-push s.transcript Committed refl
+perform_by-last (InBlock of) Commits s rows st = last-push s.transcript Committed refl
 perform_by-last Broken Commits s rows st = last-push s.transcript RolledBack refl
 perform_by-last Outside RollsBack s rows st = two-last s.transcript (Warned NoBlock) RolledBack refl refl
-perform_by-last InBlock RollsBack s rows st = last-push s.transcript RolledBack refl
+perform_by-last (InBlock of) RollsBack s rows st = last-push s.transcript RolledBack refl
 perform_by-last Broken RollsBack s rows st = last-push s.transcript RolledBack refl
 perform_by-last Outside Works s rows st = worked-last s rows (effect st (lay s.overlay rows)) (effect-tells st (lay s.overlay rows))
-perform_by-last InBlock Works s rows st = worked-last s rows (effect st (lay s.overlay rows)) (effect-tells st (lay s.overlay rows))
+perform_by-last (InBlock of) Works s rows st = worked-last s rows (effect st (lay s.overlay rows)) (effect-tells st (lay s.overlay rows))
 perform_by-last Broken Works s rows st = tt
 
 finished-last : (b : Status) (s : Session) (rows : Rows') → last_sent None (finished_by b s rows).session.transcript ≡ last_sent None s.transcript
 finished-last Outside s rows = last-push s.transcript Done refl
-finished-last InBlock s rows = last-push s.transcript Done refl
+finished-last (InBlock of) s rows = last-push s.transcript Done refl
 finished-last Broken s rows = last-push s.transcript Done refl
 
 -- going notes no step
@@ -252,10 +252,10 @@ send-steps steps w k less sound lt knows = at (waits_now w.waits (get_or steps k
         let j = (get_or steps k no_step).session in
         let ss = (get_or steps k no_step).statements in
         let s = note (session_at w j) (Sent k) in
-        let en = entering w j s ss (steady-of w sound) lt is refl refl in
+        let en = entering w j s (session_at w j).status ss (steady-of w sound) lt is refl refl in
         let v = behind_by steps w (Sends k) in
-        let rest = settle-steps steps (left_to_do v) v (goes-steady w j s (tasks_of ss) en)
-        (goes-knows steps w j s (tasks_of ss) en (k, last-append None (session_at w j).transcript (Sent k ∷ []), (less, refl)) (λ c ne h. knows c h)) in (
+        let rest = settle-steps steps (left_to_do v) v (goes-steady w j s (tasks_of (session_at w j).status ss) en)
+        (goes-knows steps w j s (tasks_of (session_at w j).status ss) en (k, last-append None (session_at w j).transcript (Sent k ∷ []), (less, refl)) (λ c ne h. knows c h)) in (
           (λ g m. ⊎_elim (λ e. subst (IsOfStep steps) (sym e) (k, refl, (less, refl))) (λ x. rest.0 g x) m),
           rest.1,
         )

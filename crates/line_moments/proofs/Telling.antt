@@ -59,23 +59,23 @@ worked-before t s rows (Faults f) = refl
 
 perform_by-before : (t : List Event) (b : Status) (k : Kind) (s : Session) (rows : Rows') (st : Bound)
     → perform_by b k (before t s) rows st ≡ before_done t (perform_by b k s rows st)
-perform_by-before t Outside Begins s rows st = ap (λ x. Goes (record s { status = InBlock; transcript = x }) rows) (push t s.transcript Began)
-perform_by-before t InBlock Begins s rows st = ap (λ x. Goes (record s { transcript = x }) rows) (push2 t s.transcript (Warned AlreadyInBlock) Began)
-perform_by-before t Broken Begins s rows st = refl
+perform_by-before t Outside (Begins level) s rows st = ap (λ x. Goes (record s { status = InBlock level; transcript = x }) rows) (push t s.transcript Began)
+perform_by-before t (InBlock of) (Begins level) s rows st = ap (λ x. Goes (record s { transcript = x }) rows) (push2 t s.transcript (Warned AlreadyInBlock) Began)
+perform_by-before t Broken (Begins level) s rows st = refl
 perform_by-before t Outside Commits s rows st =
     ap (λ x. Goes (record (ended s) { transcript = x }) (lay s.overlay rows)) (push2 t s.transcript (Warned NoBlock) Committed)
-perform_by-before t InBlock Commits s rows st =
+perform_by-before t (InBlock of) Commits s rows st =
     ap (λ x. Goes (record (ended s) { transcript = x }) (lay s.overlay rows)) (push t s.transcript Committed)
 perform_by-before t Broken Commits s rows st =
     ap (λ x. Goes (record (ended s) { transcript = x }) rows) (push t s.transcript RolledBack)
 perform_by-before t Outside RollsBack s rows st =
     ap (λ x. Goes (record (ended s) { transcript = x }) rows) (push2 t s.transcript (Warned NoBlock) RolledBack)
-perform_by-before t InBlock RollsBack s rows st =
+perform_by-before t (InBlock of) RollsBack s rows st =
     ap (λ x. Goes (record (ended s) { transcript = x }) rows) (push t s.transcript RolledBack)
 perform_by-before t Broken RollsBack s rows st =
     ap (λ x. Goes (record (ended s) { transcript = x }) rows) (push t s.transcript RolledBack)
 perform_by-before t Outside Works s rows st = worked-before t s rows (effect st (lay s.overlay rows))
-perform_by-before t InBlock Works s rows st = worked-before t s rows (effect st (lay s.overlay rows))
+perform_by-before t (InBlock of) Works s rows st = worked-before t s rows (effect st (lay s.overlay rows))
 perform_by-before t Broken Works s rows st = refl
 
 failed-before : (t : List Event) (e : Scene) (s : Session) (rows : Rows') (f : Fault)
@@ -89,7 +89,7 @@ finished-before : (t : List Event) (e : Scene) (b : Status) (s : Session) (rows 
 finished-before t e Outside s rows =
     ap (λ x. let r : Run = stopped e (record { session = record (released s) { transcript = x }; rows = lay s.overlay rows }) in r)
     (push t s.transcript Done)
-finished-before t e InBlock s rows =
+finished-before t e (InBlock of) s rows =
     ap (λ x. let r : Run = stopped e (record { session = record s { transcript = x }; rows = rows }) in r) (push t s.transcript Done)
 finished-before t e Broken s rows =
     ap (λ x. let r : Run = stopped e (record { session = record s { transcript = x }; rows = rows }) in r) (push t s.transcript Done)
@@ -220,9 +220,9 @@ send-grows steps w k sound lt = at (waits_now w.waits i) refl
         let ss = (get_or steps k no_step).statements in
         then-grows steps w (behind_by steps w (Sends k)) (settle (behind_by steps w (Sends k))) (record { world = w; cause = Sends k })
         (settle_goings (left_to_do (behind_by steps w (Sends k))) (behind_by steps w (Sends k)))
-        (goes-grows w i (told_only (session_at w i) (Sent k)) (tasks_of ss) lt)
+        (goes-grows w i (told_only (session_at w i) (Sent k)) (tasks_of (session_at w i).status ss) lt)
         (settle-grows steps (left_to_do (behind_by steps w (Sends k))) (behind_by steps w (Sends k))
-        (goes-steady w i (note (session_at w i) (Sent k)) (tasks_of ss) (entering w i (note (session_at w i) (Sent k)) ss (steady-of w sound) lt is refl refl)))
+        (goes-steady w i (note (session_at w i) (Sent k)) (tasks_of (session_at w i).status ss) (entering w i (note (session_at w i) (Sent k)) (session_at w i).status ss (steady-of w sound) lt is refl refl)))
 
 told-append : (steps : List Step) (c : ℕ) (gs hs : List Going) → told_to c (map (moment_of steps) (gs ++ hs))
     ≡ told_to c (map (moment_of steps) gs) ++ told_to c (map (moment_of steps) hs)

@@ -75,8 +75,8 @@ module _ (steps : List Step) (P : Going → Type 0)
       more is (inl e) = subst P (sym e) (sends w k sound lt is)
       more is (inr n) =
           settle-each (left_to_do (behind_by steps w (Sends k))) (behind_by steps w (Sends k))
-          (goes-steady w i (note (session_at w i) (Sent k)) (tasks_of ss)
-          (entering w i (note (session_at w i) (Sent k)) ss (steady-of w sound) lt is refl refl)) g n
+          (goes-steady w i (note (session_at w i) (Sent k)) (tasks_of (session_at w i).status ss)
+          (entering w i (note (session_at w i) (Sent k)) (session_at w i).status ss (steady-of w sound) lt is refl refl)) g n
 
       at : (b : Bool) → waits_now w.waits (get_or steps k no_step).session ≡ b
           → Among g (elim b [
@@ -101,8 +101,8 @@ behind-steady steps = line-each steps (λ g. Steady (behind steps g))
     (λ w k sound lt is.
     let i = (get_or steps k no_step).session in
     let ss = (get_or steps k no_step).statements in
-    goes-steady w i (note (session_at w i) (Sent k)) (tasks_of ss)
-    (entering w i (note (session_at w i) (Sent k)) ss (steady-of w sound) lt is refl refl))
+    goes-steady w i (note (session_at w i) (Sent k)) (tasks_of (session_at w i).status ss)
+    (entering w i (note (session_at w i) (Sent k)) (session_at w i).status ss (steady-of w sound) lt is refl refl))
     (λ w spot st h. granted-steady w spot st h)
     (λ w k sound lt is.
     let i = (get_or steps k no_step).session in

@@ -14,6 +14,7 @@ use Rattle.row_tables.specs.Overlay.{lay}
 use Rattle.statement_evaluation.specs.Effect.{effect}
 use Rattle.binding_model.specs.Tables.{no_table}
 use Rattle.bound_specs.specs.Spec.{Spec}
+use Rattle.bound_statements.specs.declared.statement.Level.TheVariants.{Serializable}
 use Rattle.bound_statements.specs.declared.statement.Bound.TheVariants.{Insert, Delete, Begin, Commit}
 use Rattle.events.specs.declared.event.Event.TheVariants.{Sent, Row as RowEvent, Rows, Updated, Committed, Failed, Waiting, Resumed, Done, NotSent}
 use Rattle.events.specs.declared.event.Fault.TheVariants.{Deadlock, Unavailable}
@@ -66,7 +67,7 @@ waits_row_is : told waits_row (0 ∷ 2 ∷ 3 ∷ 1 ∷ [])
       step = Some 0;
       events = Sent 0 ∷ Updated 1 ∷ Done ∷ [];
       changes = Had (Table 0) IntentExclusive ∷ Had (row 1) Exclusive ∷ [];
-      status = InBlock;
+      status = InBlock Serializable;
       ending = Ended;
       still = [];
     }
@@ -76,7 +77,7 @@ waits_row_is : told waits_row (0 ∷ 2 ∷ 3 ∷ 1 ∷ [])
       step = Some 2;
       events = Sent 2 ∷ Waiting ∷ [];
       changes = Had (Table 0) IntentExclusive ∷ [];
-      status = InBlock;
+      status = InBlock Serializable;
       ending = awaits (row 1) Exclusive (holds 0 Exclusive ∷ []);
       still = [];
     }
@@ -86,7 +87,7 @@ waits_row_is : told waits_row (0 ∷ 2 ∷ 3 ∷ 1 ∷ [])
       step = Some 3;
       events = NotSent 3 ∷ [];
       changes = [];
-      status = InBlock;
+      status = InBlock Serializable;
       ending = awaits (row 1) Exclusive (holds 0 Exclusive ∷ []);
       still = [];
     }
@@ -106,7 +107,7 @@ waits_row_is : told waits_row (0 ∷ 2 ∷ 3 ∷ 1 ∷ [])
       step = Some 2;
       events = Resumed ∷ Updated 1 ∷ Done ∷ [];
       changes = Had (row 1) Exclusive ∷ [];
-      status = InBlock;
+      status = InBlock Serializable;
       ending = Ended;
       still = [];
     }
@@ -122,7 +123,7 @@ ring_row_is : told ring_row (0 ∷ 2 ∷ 1 ∷ 3 ∷ [])
       step = Some 0;
       events = Sent 0 ∷ Updated 1 ∷ Done ∷ [];
       changes = Had (Table 0) IntentExclusive ∷ Had (row 1) Exclusive ∷ [];
-      status = InBlock;
+      status = InBlock Serializable;
       ending = Ended;
       still = [];
     }
@@ -132,7 +133,7 @@ ring_row_is : told ring_row (0 ∷ 2 ∷ 1 ∷ 3 ∷ [])
       step = Some 2;
       events = Sent 2 ∷ Updated 1 ∷ Done ∷ [];
       changes = Had (Table 0) IntentExclusive ∷ Had (row 2) Exclusive ∷ [];
-      status = InBlock;
+      status = InBlock Serializable;
       ending = Ended;
       still = [];
     }
@@ -142,7 +143,7 @@ ring_row_is : told ring_row (0 ∷ 2 ∷ 1 ∷ 3 ∷ [])
       step = Some 1;
       events = Sent 1 ∷ Waiting ∷ [];
       changes = Had (Table 0) IntentExclusive ∷ [];
-      status = InBlock;
+      status = InBlock Serializable;
       ending = awaits (row 2) Exclusive (holds 1 Exclusive ∷ []);
       still = [];
     }
@@ -162,7 +163,7 @@ ring_row_is : told ring_row (0 ∷ 2 ∷ 1 ∷ 3 ∷ [])
       step = Some 1;
       events = Resumed ∷ Updated 1 ∷ Done ∷ [];
       changes = Had (row 2) Exclusive ∷ [];
-      status = InBlock;
+      status = InBlock Serializable;
       ending = Ended;
       still = [];
     }
@@ -178,7 +179,7 @@ queue_row =
       steps = step 0 (sets 1 5) ∷ step 0 Commit ∷ step 1 (sets 1 6) ∷ step 2 (sets 1 7) ∷ [];
       setups = two_rows ∷ [];
       lines = [];
-      session_setups = (Begin ∷ []) ∷ (Begin ∷ []) ∷ [] ∷ [];
+      session_setups = (Begin None ∷ []) ∷ (Begin None ∷ []) ∷ [] ∷ [];
     }
 
 abbrev endings : List Moment → List (Ending × List Still)
@@ -196,8 +197,8 @@ queue_row_is = refl
 -- a read FOR UPDATE waits for the row that another one has locked, and reads it once that one has committed
 abbrev locking_row : Spec
 locking_row =
-    in_blocks 2 (step 0 (reads_one (record { exclusive = true; nowait = false })) ∷ step 0 Commit
-    ∷ step 1 (reads_one (record { exclusive = true; nowait = false })) ∷ [])
+    in_blocks 2 (step 0 (reads_one (record { exclusive = true; nowait = false; level = None })) ∷ step 0 Commit
+    ∷ step 1 (reads_one (record { exclusive = true; nowait = false; level = None })) ∷ [])
 
 locking_row_is : told locking_row (0 ∷ 2 ∷ 1 ∷ [])
     ≡ record {
@@ -206,7 +207,7 @@ locking_row_is : told locking_row (0 ∷ 2 ∷ 1 ∷ [])
       step = Some 0;
       events = Sent 0 ∷ RowEvent (number 10 ∷ []) ∷ Rows 1 ∷ Done ∷ [];
       changes = Had (Table 0) IntentExclusive ∷ Had (row 1) Exclusive ∷ [];
-      status = InBlock;
+      status = InBlock Serializable;
       ending = Ended;
       still = [];
     }
@@ -216,7 +217,7 @@ locking_row_is : told locking_row (0 ∷ 2 ∷ 1 ∷ [])
       step = Some 2;
       events = Sent 2 ∷ Waiting ∷ [];
       changes = Had (Table 0) IntentExclusive ∷ [];
-      status = InBlock;
+      status = InBlock Serializable;
       ending = awaits (row 1) Exclusive (holds 0 Exclusive ∷ []);
       still = [];
     }
@@ -236,7 +237,7 @@ locking_row_is : told locking_row (0 ∷ 2 ∷ 1 ∷ [])
       step = Some 2;
       events = Resumed ∷ RowEvent (number 10 ∷ []) ∷ Rows 1 ∷ Done ∷ [];
       changes = Had (row 1) Exclusive ∷ [];
-      status = InBlock;
+      status = InBlock Serializable;
       ending = Ended;
       still = [];
     }
@@ -252,7 +253,7 @@ not_waiting_row_is : told not_waiting_row (0 ∷ 2 ∷ [])
       step = Some 0;
       events = Sent 0 ∷ RowEvent (number 10 ∷ []) ∷ Rows 1 ∷ Done ∷ [];
       changes = Had (Table 0) IntentExclusive ∷ Had (row 1) Exclusive ∷ [];
-      status = InBlock;
+      status = InBlock Serializable;
       ending = Ended;
       still = [];
     }

@@ -21,8 +21,9 @@ use Rattle.machine_model.specs.World.{World, look_of, session_at, send_all}
 use Rattle.machine_model.specs.Start.{Started, start}
 use Rattle.machine_model.specs.Typed.{LiesAt}
 use Rattle.bound_specs.specs.Spec.{Spec, SpecFile}
-use Rattle.bound_specs.specs.Binding.{IsFileOf, declared, main_setup}
+use Rattle.bound_specs.specs.Binding.{IsFileAt, declared, main_setup}
 use Rattle.bound_statements.specs.declared.statement.Bound.{Bound}
+use Rattle.bound_statements.specs.declared.statement.Level.{Level}
 use Rattle.lock_queues.specs.Reasons.{Want, Among, IsExact}
 use Rattle.line_moments.specs.Moments.{line_moments, want_in}
 use Rattle.line_moments.specs.declared.shown.Left.{Left}
@@ -56,7 +57,7 @@ LeaveSame xs ys = rows_alone xs ≡ rows_alone ys
 abbrev pub standing_by : Option Want → Status → Standing
 standing_by (Some want) status = StillWaits want
 standing_by None Outside = HasEnded
-standing_by None InBlock = IsOpen
+standing_by None (InBlock of) = IsOpen
 standing_by None Broken = HasFailed
 
 abbrev pub standing_of : World → ℕ → Standing
@@ -116,7 +117,7 @@ pub record IsLeftIn (tables : List Table) (w : World) (xs : List Left) : Type 0 
 -- so the session stands, and what is told of its wait is exact
 abbrev pub IsStanding : World → ℕ → Standing → Type 0
 IsStanding w c HasEnded = (waits_now w.waits c ≡ false) × ((session_at w c).status ≡ Outside)
-IsStanding w c IsOpen = (waits_now w.waits c ≡ false) × ((session_at w c).status ≡ InBlock)
+IsStanding w c IsOpen = (waits_now w.waits c ≡ false) × ((level : Level) × ((session_at w c).status ≡ InBlock level))
 IsStanding w c HasFailed = (waits_now w.waits c ≡ false) × ((session_at w c).status ≡ Broken)
 IsStanding w c (StillWaits want) = (waits_now w.waits c ≡ true) × IsExact (look_of w) w.waits c want
 
@@ -148,7 +149,7 @@ pub record IsShown (tables : List Table) (spec : Spec) (line : List ℕ) (x : Sh
 
 -- what is shown of a line of a spec file, with the tables that its main setups declare
 pub record IsShownOf (text : List ℕ) (file : SpecFile) (line : List ℕ) (x : Shown) : Type 0 where
-  pub is : IsFileOf text file
+  pub is : IsFileAt text file
   pub tables : List Table
   pub blocks : List (List Bound)
   pub declares : declared main_setup [] is.tree.front.setups ≡ Ok (tables, blocks)

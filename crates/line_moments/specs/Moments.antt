@@ -54,7 +54,7 @@ pub record Going : Type 0 where
 -- the world after it
 abbrev pub behind_by : List Step → World → Cause → World
 behind_by steps w (Sends k) =
-    goes w (get_or steps k no_step).session (note (session_at w (get_or steps k no_step).session) (Sent k)) (tasks_of (get_or steps k no_step).statements)
+    goes w (get_or steps k no_step).session (note (session_at w (get_or steps k no_step).session) (Sent k)) (tasks_of (session_at w (get_or steps k no_step).session).status (get_or steps k no_step).statements)
 behind_by steps w (GoesOn spot) = granted w spot
 behind_by steps w (Skips k) = noted w (get_or steps k no_step).session (NotSent k)
 
@@ -96,12 +96,12 @@ let_go h = let_go_by (entries h)
 -- at the end of a step
 abbrev pub end_changes : Status → Held → List Change
 end_changes Outside h = let_go h
-end_changes InBlock h = []
+end_changes (InBlock of) h = []
 end_changes Broken h = []
 
 -- behind a statement that goes
 abbrev pub did_changes : Kind → Held → List Change
-did_changes Begins h = []
+did_changes (Begins level) h = []
 did_changes Commits h = let_go h
 did_changes RollsBack h = let_go h
 did_changes Works h = []
@@ -200,7 +200,7 @@ without w spot = record w { waits = spot.before ++ spot.after }
 abbrev pub events_by : List Step → World → Cause → List Event
 events_by steps w (Sends k) =
     let st = get_or steps k no_step in
-    (go (scene_of w) st.session (told_only (session_at w st.session) (Sent k)) w.rows (tasks_of st.statements)).session.transcript
+    (go (scene_of w) st.session (told_only (session_at w st.session) (Sent k)) w.rows (tasks_of (session_at w st.session).status st.statements)).session.transcript
 events_by steps w (GoesOn spot) =
     let i = spot.wait.session in
     (go (scene_of (without w spot)) i (told_only (holding w spot) Resumed) w.rows (session_at w i).rest).session.transcript
@@ -209,7 +209,7 @@ events_by steps w (Skips k) = NotSent k ∷ []
 -- the locks that it got and let go
 abbrev pub changes_by : List Step → World → Cause → List Change
 changes_by steps w (Sends k) =
-    let st = get_or steps k no_step in go_changes (scene_of w) st.session (told_only (session_at w st.session) (Sent k)) w.rows (tasks_of st.statements)
+    let st = get_or steps k no_step in go_changes (scene_of w) st.session (told_only (session_at w st.session) (Sent k)) w.rows (tasks_of (session_at w st.session).status st.statements)
 changes_by steps w (GoesOn spot) =
     let i = spot.wait.session in
     Had spot.wait.resource (wanted (get (session_at w i).held spot.wait.resource) spot.wait.mode)
@@ -219,7 +219,7 @@ changes_by steps w (Skips k) = []
 -- why it was refused a request, if it was
 abbrev pub refusal_by : List Step → World → Cause → Option Refusal
 refusal_by steps w (Sends k) =
-    let st = get_or steps k no_step in go_refusal (scene_of w) st.session (told_only (session_at w st.session) (Sent k)) w.rows (tasks_of st.statements)
+    let st = get_or steps k no_step in go_refusal (scene_of w) st.session (told_only (session_at w st.session) (Sent k)) w.rows (tasks_of (session_at w st.session).status st.statements)
 refusal_by steps w (GoesOn spot) =
     let i = spot.wait.session in go_refusal (scene_of (without w spot)) i (told_only (holding w spot) Resumed) w.rows (session_at w i).rest
 refusal_by steps w (Skips k) = None
@@ -360,7 +360,7 @@ held_from steps w cause = changed (session_at w (session_by steps cause)).held (
 
 -- the tasks that it goes on with
 abbrev pub tasks_by : List Step → World → Cause → List Task
-tasks_by steps w (Sends k) = tasks_of (get_or steps k no_step).statements
+tasks_by steps w (Sends k) = tasks_of (session_at w (get_or steps k no_step).session).status (get_or steps k no_step).statements
 tasks_by steps w (GoesOn spot) = (session_at w spot.wait.session).rest
 tasks_by steps w (Skips k) = []
 

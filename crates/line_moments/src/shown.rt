@@ -61,7 +61,7 @@ impl Standing {
             Some(want) => Standing::StillWaits(want),
             None => match status {
                 Status::Outside => Standing::HasEnded,
-                Status::InBlock => Standing::IsOpen,
+                Status::InBlock(_) => Standing::IsOpen,
                 Status::Broken => Standing::HasFailed,
             },
         }

@@ -27,11 +27,11 @@ send-count steps w k = at (waits_now w.waits i)
     i = (get_or steps k no_step).session
 
     at : (b : Bool) → length (let x : World =
-        elim b [ true ↦ noted w i (NotSent k) | false ↦ settle (goes w i (note (session_at w i) (Sent k)) (tasks_of (get_or steps k no_step).statements)) ]
+        elim b [ true ↦ noted w i (NotSent k) | false ↦ settle (goes w i (note (session_at w i) (Sent k)) (tasks_of (session_at w i).status (get_or steps k no_step).statements)) ]
         in x.sessions) ≡ length w.sessions
     at true = length-set w.sessions i _
-    at false = settle_for-count (left_to_do (goes w i (note (session_at w i) (Sent k)) (tasks_of (get_or steps k no_step).statements)))
-        (goes w i (note (session_at w i) (Sent k)) (tasks_of (get_or steps k no_step).statements)) ∙ length-set w.sessions i _
+    at false = settle_for-count (left_to_do (goes w i (note (session_at w i) (Sent k)) (tasks_of (session_at w i).status (get_or steps k no_step).statements)))
+        (goes w i (note (session_at w i) (Sent k)) (tasks_of (session_at w i).status (get_or steps k no_step).statements)) ∙ length-set w.sessions i _
 
 -- each step is one of a session of the world
 abbrev pub Fitting : List Step → World → Type 0

@@ -128,7 +128,7 @@ effect-writable (Delete t (Some key) c) rows = deleted-under (Delete t (Some key
 effect-writable (Delete t None c) rows = deleted-under (Delete t None c) c rows (refl, tt)
 effect-writable (Lock t m n) rows = tt
 effect-writable SetVariable rows = tt
-effect-writable Begin rows = tt
+effect-writable (Begin level) rows = tt
 effect-writable Commit rows = tt
 effect-writable Rollback rows = tt
 

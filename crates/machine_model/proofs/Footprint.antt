@@ -87,22 +87,22 @@ works-same hidden s a b st off h =
 pub perform_by-same : (hidden : RowPlace → Bool) (status : Status) (k : Kind) (s : Session) (a b : Rows') (st : Bound) → ReadsBut hidden st
     → AgreeBut hidden a b
     → SameWay a b (perform_by status k s a st) (perform_by status k s b st)
-perform_by-same hidden Outside Begins s a b st off h = both_go (changes-none a b)
-perform_by-same hidden InBlock Begins s a b st off h = both_go (changes-none a b)
-perform_by-same hidden Broken Begins s a b st off h = both_fail
+perform_by-same hidden Outside (Begins level) s a b st off h = both_go (changes-none a b)
+perform_by-same hidden (InBlock of) (Begins level) s a b st off h = both_go (changes-none a b)
+perform_by-same hidden Broken (Begins level) s a b st off h = both_fail
 perform_by-same hidden Outside Commits s a b st off h = both_go (changes-lay s.overlay a b)
-perform_by-same hidden InBlock Commits s a b st off h = both_go (changes-lay s.overlay a b)
+perform_by-same hidden (InBlock of) Commits s a b st off h = both_go (changes-lay s.overlay a b)
 perform_by-same hidden Broken Commits s a b st off h = both_go (changes-none a b)
 perform_by-same hidden Outside RollsBack s a b st off h = both_go (changes-none a b)
-perform_by-same hidden InBlock RollsBack s a b st off h = both_go (changes-none a b)
+perform_by-same hidden (InBlock of) RollsBack s a b st off h = both_go (changes-none a b)
 perform_by-same hidden Broken RollsBack s a b st off h = both_go (changes-none a b)
 perform_by-same hidden Outside Works s a b st off h = works-same hidden s a b st off h
-perform_by-same hidden InBlock Works s a b st off h = works-same hidden s a b st off h
+perform_by-same hidden (InBlock of) Works s a b st off h = works-same hidden s a b st off h
 perform_by-same hidden Broken Works s a b st off h = both_fail
 
 finished-same : (status : Status) (s : Session) (a b : Rows') → EndsSame a b (finished_by status s a) (finished_by status s b)
 finished-same Outside s a b = record { session = refl; changes = changes-lay s.overlay a b }
-finished-same InBlock s a b = record { session = refl; changes = changes-none a b }
+finished-same (InBlock of) s a b = record { session = refl; changes = changes-none a b }
 finished-same Broken s a b = record { session = refl; changes = changes-none a b }
 
 -- the session ends the same over rows that agree where it reads
@@ -198,17 +198,17 @@ worked-within claims s rows (Faults f) each h = tt
 
 perform_by-within : (claims : Claims) (status : Status) (k : Kind) (s : Session) (rows : Rows') (st : Bound) → WritesUnder claims st
     → OverlayUnder claims s.overlay → OnGoes (perform_by status k s rows st) (Within claims rows)
-perform_by-within claims Outside Begins s rows st under h = record { overlay = h; changed = AgreeOff-refl claims rows }
-perform_by-within claims InBlock Begins s rows st under h = record { overlay = h; changed = AgreeOff-refl claims rows }
-perform_by-within claims Broken Begins s rows st under h = tt
+perform_by-within claims Outside (Begins level) s rows st under h = record { overlay = h; changed = AgreeOff-refl claims rows }
+perform_by-within claims (InBlock of) (Begins level) s rows st under h = record { overlay = h; changed = AgreeOff-refl claims rows }
+perform_by-within claims Broken (Begins level) s rows st under h = tt
 perform_by-within claims Outside Commits s rows st under h = record { overlay = OverlayUnder-empty claims; changed = AgreeOff-laid claims s.overlay rows h }
-perform_by-within claims InBlock Commits s rows st under h = record { overlay = OverlayUnder-empty claims; changed = AgreeOff-laid claims s.overlay rows h }
+perform_by-within claims (InBlock of) Commits s rows st under h = record { overlay = OverlayUnder-empty claims; changed = AgreeOff-laid claims s.overlay rows h }
 perform_by-within claims Broken Commits s rows st under h = record { overlay = OverlayUnder-empty claims; changed = AgreeOff-refl claims rows }
 perform_by-within claims Outside RollsBack s rows st under h = record { overlay = OverlayUnder-empty claims; changed = AgreeOff-refl claims rows }
-perform_by-within claims InBlock RollsBack s rows st under h = record { overlay = OverlayUnder-empty claims; changed = AgreeOff-refl claims rows }
+perform_by-within claims (InBlock of) RollsBack s rows st under h = record { overlay = OverlayUnder-empty claims; changed = AgreeOff-refl claims rows }
 perform_by-within claims Broken RollsBack s rows st under h = record { overlay = OverlayUnder-empty claims; changed = AgreeOff-refl claims rows }
 perform_by-within claims Outside Works s rows st under h = worked-within claims s rows _ (under.each _) h
-perform_by-within claims InBlock Works s rows st under h = worked-within claims s rows _ (under.each _) h
+perform_by-within claims (InBlock of) Works s rows st under h = worked-within claims s rows _ (under.each _) h
 perform_by-within claims Broken Works s rows st under h = tt
 
 AgreeOff-trans : (claims : Claims) (a b c : Rows') → AgreeOff claims a b → AgreeOff claims b c → AgreeOff claims a c
@@ -217,7 +217,7 @@ AgreeOff-trans claims a b c p q = record { each = λ x off. p.each x off ∙ q.e
 finished-within : (claims : Claims) (status : Status) (s : Session) (rows : Rows') → OverlayUnder claims s.overlay
     → AgreeOff claims (finished_by status s rows).rows rows
 finished-within claims Outside s rows h = AgreeOff-laid claims s.overlay rows h
-finished-within claims InBlock s rows h = AgreeOff-refl claims rows
+finished-within claims (InBlock of) s rows h = AgreeOff-refl claims rows
 finished-within claims Broken s rows h = AgreeOff-refl claims rows
 
 -- the session changes committed rows only where it may

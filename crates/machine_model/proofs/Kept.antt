@@ -6,7 +6,10 @@ use Rattle.lock_modes.specs.RowPlace.{place_order}
 use Rattle.lock_modes.specs.Rows.{Rows', Write}
 use Rattle.lock_modes.specs.Resource.{resource_order}
 use Rattle.lock_queues.specs.Locks.{fits, wanted, may_have, closes_ring}
+use Rattle.bound_statements.specs.Levels.{is_unlocked, asked as asked_by}
 use Rattle.bound_statements.specs.Plan.{Tuple, Request, request, plan}
+use Rattle.bound_statements.proofs.LevelLemmas.{asked-locked}
+use Rattle.statement_evaluation.proofs.LevelEffects.{unlocked-writes}
 use Rattle.row_tables.specs.Overlay.{Overlay, written}
 use Rattle.statement_evaluation.specs.Effect.{Effect, Gives, Faults, effect}
 use Rattle.machine_model.specs.Session.{Task, Ask, Do, Session, Held, Performed, Goes, Fails, Kind, Begins, Commits, RollsBack, Works, kind, perform}
@@ -41,28 +44,41 @@ under-written : (o : Overlay) (h : Held) (ws : List Write) → Each (λ w. may_w
     → UnderLocks (written ws o) h
 under-written o h ws each under p x e = (OverlayUnder-written (claims_of h []) ws o each (record { each = under })).each p x e
 
-effect-under : (h : Held) (st : Bound) (rows : Rows') → HoldsAll h (plan st) → OnGives (effect st rows) (Each (λ w. may_write (claims_of h []) w.place ≡ true))
-effect-under h st rows holds = on-gives-map (λ w. writable (plan st) w.place ≡ true) (λ w. may_write (claims_of h []) w.place
-    ≡ true) (λ w e. can-may h w.place (writable-can h (plan st) w.place holds e)) (effect st rows) (effect-writable st rows)
+-- where nothing is written, whatever is written lies under locks
+no-writes : (P : Write → Type 0) (e : Effect) → OnGives e (λ ws. ws ≡ []) → OnGives e (Each P)
+no-writes P (Gives events ws) h = subst (Each P) (sym h) tt
+no-writes P (Faults f) h = tt
+
+-- a statement writes where what it asked for lets it write; one that asks for nothing of its plan writes nothing
+effect-under : (h : Held) (st : Bound) (rows : Rows') → HoldsAll h (asked_by st)
+    → OnGives (effect st rows) (Each (λ w. may_write (claims_of h []) w.place ≡ true))
+effect-under h st rows holds = by (is_unlocked st) refl
+  where
+    by : (b : Bool) → is_unlocked st ≡ b → OnGives (effect st rows) (Each (λ w. may_write (claims_of h []) w.place ≡ true))
+    by true is = no-writes (λ w. may_write (claims_of h []) w.place ≡ true) (effect st rows) (unlocked-writes st rows is)
+    by false is =
+        let all : HoldsAll h (plan st) = subst (HoldsAll h) (asked-locked st is) holds in
+        on-gives-map (λ w. writable (plan st) w.place ≡ true) (λ w. may_write (claims_of h []) w.place ≡ true)
+        (λ w e. can-may h w.place (writable-can h (plan st) w.place all e)) (effect st rows) (effect-writable st rows)
 
 worked-under : (s : Session) (rows : Rows') (e : Effect) → OnGives e (Each (λ w. may_write (claims_of s.held []) w.place ≡ true)) → UnderLocks s.overlay s.held
     → OnGoes (worked s rows e) (λ s2 rows2. UnderLocks s2.overlay s2.held)
 worked-under s rows (Gives events writes) each under = under-written s.overlay s.held writes each under
 worked-under s rows (Faults f) each under = tt
 
-pub perform_by-under : (status : Status) (k : Kind) (s : Session) (rows : Rows') (st : Bound) → HoldsAll s.held (plan st) → UnderLocks s.overlay s.held
+pub perform_by-under : (status : Status) (k : Kind) (s : Session) (rows : Rows') (st : Bound) → HoldsAll s.held (asked_by st) → UnderLocks s.overlay s.held
     → OnGoes (perform_by status k s rows st) (λ s2 rows2. UnderLocks s2.overlay s2.held)
-perform_by-under Outside Begins s rows st holds under = under
-perform_by-under InBlock Begins s rows st holds under = under
-perform_by-under Broken Begins s rows st holds under = tt
+perform_by-under Outside (Begins level) s rows st holds under = under
+perform_by-under (InBlock of) (Begins level) s rows st holds under = under
+perform_by-under Broken (Begins level) s rows st holds under = tt
 perform_by-under Outside Commits s rows st holds under = under-empty empty
-perform_by-under InBlock Commits s rows st holds under = under-empty empty
+perform_by-under (InBlock of) Commits s rows st holds under = under-empty empty
 perform_by-under Broken Commits s rows st holds under = under-empty empty
 perform_by-under Outside RollsBack s rows st holds under = under-empty empty
-perform_by-under InBlock RollsBack s rows st holds under = under-empty empty
+perform_by-under (InBlock of) RollsBack s rows st holds under = under-empty empty
 perform_by-under Broken RollsBack s rows st holds under = under-empty empty
 perform_by-under Outside Works s rows st holds under = worked-under s rows _ (effect-under s.held st _ holds) under
-perform_by-under InBlock Works s rows st holds under = worked-under s rows _ (effect-under s.held st _ holds) under
+perform_by-under (InBlock of) Works s rows st holds under = worked-under s rows _ (effect-under s.held st _ holds) under
 perform_by-under Broken Works s rows st holds under = tt
 
 -- ---- a run
@@ -89,7 +105,7 @@ good-failed e i n s rows f = record { fits = held-fits-empty e i; under = under-
 good-finished : (e : Scene) (i n : ℕ) (status : Status) (s : Session) (rows : Rows') → HeldFits e i s.held → UnderLocks s.overlay s.held
     → GoodRun e i n (stopped e (finished_by status s rows))
 good-finished e i n Outside s rows fits under = record { fits = held-fits-empty e i; under = under-empty empty; ends = inl refl }
-good-finished e i n InBlock s rows fits under = record { fits = fits; under = under; ends = inl refl }
+good-finished e i n (InBlock of) s rows fits under = record { fits = fits; under = under; ends = inl refl }
 good-finished e i n Broken s rows fits under = record { fits = fits; under = under; ends = inl refl }
 
 good-held_up : (e : Scene) (i n : ℕ) (s : Session) (rows : Rows') (r : Resource) (m : Mode) (ts : List Task) (have : List Request) → HeldFits e i s.held
@@ -161,7 +177,7 @@ go-good e i s rows (Ask n r m ∷ ts) have fits under holds backed =
     asked false false false false is k rec = good-held_up e i _ s rows r m ts have fits under holds backed (omega arith) k
 go-good e i s rows (Do st ∷ ts) have fits under holds backed =
     done (perform s rows st) (perform-held (HeldFits e i) (held-fits-empty e i) s rows st fits)
-    (perform_by-under s.status (kind st) s rows st (holds-plan s.held have (plan st) holds backed.0) under)
+    (perform_by-under s.status (kind st) s rows st (holds-plan s.held have (asked_by st) holds backed.0) under)
     (λ s2 rows2 f u. longer e i (length ts) (suc (length ts)) _ (omega arith) (go-good e i s2 rows2 ts [] f u tt backed.1))
   where
     done : (d : Performed) → OnGoes d (λ s2 rows2. HeldFits e i s2.held) → OnGoes d (λ s2 rows2. UnderLocks s2.overlay s2.held)

@@ -1,5 +1,6 @@
 pub mod Basics
 pub mod Looks
+pub mod Levels
 pub mod Claiming
 pub mod Fitting
 pub mod Solo

@@ -7,7 +7,7 @@ use Rattle.lock_modes.specs.Value.{value_order}
 use Rattle.lock_modes.specs.Resource.{resource_order, same_resource}
 use Rattle.bound_statements.specs.Plan.{Tuple, request, Request, plan, opened, asks_on, reads_table, writes_in, is_exclusive, key_at, at_key, looks_at, select_intent, select_mode}
 use Rattle.lock_modes.specs.declared.mode.Mode.{Mode}
-use Rattle.lock_modes.specs.declared.mode.Mode.TheVariants.{IntentShare, IntentExclusive, Share, Exclusive}
+use Rattle.lock_modes.specs.declared.mode.Mode.TheVariants.{IntentExclusive, Exclusive}
 use Rattle.lock_modes.specs.declared.resource.Resource.TheVariants.{Table, Row as RowOf}
 use Rattle.bound_statements.specs.declared.statement.Bound.{Bound}
 use Rattle.bound_statements.specs.declared.statement.Bound.TheVariants.{Select, Insert, Update, Delete, Begin, Commit, Rollback, Lock, SetVariable}
@@ -69,7 +69,7 @@ looked-opened (Delete t (Some key) c) p h = let b = both_true (p.0 == t) _ h
     in row-opens t IntentExclusive (request (RowOf t key) Exclusive ∷ []) p b.0 (one-row t key Exclusive p refl b.0 b.1)
 looked-opened (Delete t None c) p h = table-opens t Exclusive [] p refl (both_true (p.0 == t) _ h).0
 looked-opened (Lock t m n) p h = cc
-looked-opened Begin p h = cc
+looked-opened (Begin level) p h = cc
 looked-opened Commit p h = cc
 looked-opened Rollback p h = cc
 looked-opened SetVariable p h = cc

@@ -78,17 +78,17 @@ module _ (steps : List Step) (o : ℕ) where
   worked-own s rows (Faults f) d all = tt
 
   perform_by-own : (b : Status) (k : Kind) (s : Session) (rows : Rows') (st : Bound) → Own s.transcript → OwnAfter (perform_by b k s rows st)
-  perform_by-own Outside Begins s rows st all = push s.transcript Began tt all
-  perform_by-own InBlock Begins s rows st all = push (s.transcript ++ Warned AlreadyInBlock ∷ []) Began tt (push s.transcript (Warned AlreadyInBlock) tt all)
-  perform_by-own Broken Begins s rows st all = tt
+  perform_by-own Outside (Begins level) s rows st all = push s.transcript Began tt all
+  perform_by-own (InBlock of) (Begins level) s rows st all = push (s.transcript ++ Warned AlreadyInBlock ∷ []) Began tt (push s.transcript (Warned AlreadyInBlock) tt all)
+  perform_by-own Broken (Begins level) s rows st all = tt
   perform_by-own Outside Commits s rows st all = push (s.transcript ++ Warned NoBlock ∷ []) Committed tt (push s.transcript (Warned NoBlock) tt all)
-  perform_by-own InBlock Commits s rows st all = push s.transcript Committed tt all
+  perform_by-own (InBlock of) Commits s rows st all = push s.transcript Committed tt all
   perform_by-own Broken Commits s rows st all = push s.transcript RolledBack tt all
   perform_by-own Outside RollsBack s rows st all = push (s.transcript ++ Warned NoBlock ∷ []) RolledBack tt (push s.transcript (Warned NoBlock) tt all)
-  perform_by-own InBlock RollsBack s rows st all = push s.transcript RolledBack tt all
+  perform_by-own (InBlock of) RollsBack s rows st all = push s.transcript RolledBack tt all
   perform_by-own Broken RollsBack s rows st all = push s.transcript RolledBack tt all
   perform_by-own Outside Works s rows st all = worked-own s rows (effect st (lay s.overlay rows)) (effect-tells st (lay s.overlay rows)) all
-  perform_by-own InBlock Works s rows st all = worked-own s rows (effect st (lay s.overlay rows)) (effect-tells st (lay s.overlay rows)) all
+  perform_by-own (InBlock of) Works s rows st all = worked-own s rows (effect st (lay s.overlay rows)) (effect-tells st (lay s.overlay rows)) all
   perform_by-own Broken Works s rows st all = tt
 
   failed-own : (t : List Event) (f : Fault) → Own t → Own (t ++ Failed f ∷ Done ∷ [])
@@ -98,7 +98,7 @@ module _ (steps : List Step) (o : ℕ) where
 
   finished-own : (b : Status) (s : Session) (rows : Rows') → Own s.transcript → Own (finished_by b s rows).session.transcript
   finished-own Outside s rows all = push s.transcript Done tt all
-  finished-own InBlock s rows all = push s.transcript Done tt all
+  finished-own (InBlock of) s rows all = push s.transcript Done tt all
   finished-own Broken s rows all = push s.transcript Done tt all
 
   go-own : (e : Scene) (i : ℕ) (s : Session) (rows : Rows') (ts : List Task) → Own s.transcript → Own (go e i s rows ts).session.transcript
@@ -180,12 +180,12 @@ send-own steps w k lt all = at (waits_now w.waits i)
     at : (b : Bool) → TellsOwn steps (elim b [
       | true ↦ noted w i (NotSent k)
       | false ↦ settle
-          (goes w i (note s (Sent k)) (tasks_of (get_or steps k no_step).statements))
+          (goes w i (note s (Sent k)) (tasks_of s.status (get_or steps k no_step).statements))
     ])
     at true = set-own steps w.sessions i (note s (NotSent k)) (push steps i s.transcript (NotSent k) (lt, refl) (all i)) all
     at false =
-        let v = goes w i (note s (Sent k)) (tasks_of (get_or steps k no_step).statements) in
-        settle_for-own steps (left_to_do v) v (goes-own steps w i (note s (Sent k)) (tasks_of (get_or steps k no_step).statements) all
+        let v = goes w i (note s (Sent k)) (tasks_of s.status (get_or steps k no_step).statements) in
+        settle_for-own steps (left_to_do v) v (goes-own steps w i (note s (Sent k)) (tasks_of s.status (get_or steps k no_step).statements) all
         (push steps i s.transcript (Sent k) (lt, refl) (all i)))
 
 -- ---- outcomes
@@ -260,7 +260,7 @@ setup-silent w i block all c = ⊎_elim there other (cases-eq c i)
     other : c ≢ i → (session_at (forgotten v i) c).transcript ≡ []
     other ne =
         ap (λ (x : Session). x.transcript) (get_or-set_other v.sessions i c s fresh ne)
-        ∙ ap (λ (x : Session). x.transcript) (session-other w i c (go (scene_of w) i (session_at w i) w.rows (tasks_of block)) ne) ∙ all c
+        ∙ ap (λ (x : Session). x.transcript) (session-other w i c (go (scene_of w) i (session_at w i) w.rows (tasks_of (session_at w i).status block)) ne) ∙ all c
 
 main-silent : (control k : ℕ) (w : World) (blocks : List (List Bound)) → Silent w → OnStarted (main_setups control k w blocks) Silent
 main-silent control k w [] all = all

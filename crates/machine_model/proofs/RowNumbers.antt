@@ -1,7 +1,7 @@
 -- New rows of tables without a key get numbers past those that are there.
-use Rattle.std.proofs.Common.{◌≡◌, refl, sym, ap, ◌∙◌, subst, ℕ, suc, ◌<◌, arith, List, [], ◌∷◌, length, get_or, Option, Some, None, All, pos, negsuc, ltb-true}
-use Rattle.std.proofs.Common.{Ordering, Less, Equal, Greater}
-use Rattle.std.specs.Prelude.{T, Bool, true, false, cond, int_lt, ◌==◌}
+use Rattle.std.proofs.Common.{◌≡◌, refl, sym, ap, subst, ℕ, suc, ◌<◌, arith, List, [], ◌∷◌, None, All, pos, negsuc, ltb-true}
+use Rattle.std.proofs.Common.{Less, Equal, Greater}
+use Rattle.std.specs.Prelude.{T, Bool, true, false, cond, int_lt}
 use Rattle.std.proofs.lemmas.Bool.{eqb-true}
 use Rattle.std.specs.Ordering.{is_lt, int_cmp, ordering_then}
 use Rattle.std.specs.Cmp.{nat_cmp_is}
@@ -16,7 +16,6 @@ use Rattle.bound_statements.specs.declared.statement.Bound.{Bound}
 use Rattle.bound_statements.specs.declared.statement.Bound.TheVariants.{Insert}
 use Rattle.binding_model.specs.declared.tables.Table.{Table}
 use Rattle.bound_specs.specs.Fits.{Fits}
-use Rattle.binding_model.specs.Tables.{no_table, key_column}
 use Rattle.statement_evaluation.specs.Effect.{visible, next_number}
 use Rattle.statement_evaluation.proofs.ListLemmas.{Each, Each-map}
 use Rattle.machine_model.specs.Typed.{LiesAt, EntryFits, RowsFit}

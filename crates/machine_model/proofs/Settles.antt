@@ -11,8 +11,10 @@ use Rattle.lock_modes.specs.Mode.{compatible}
 use Rattle.lock_queues.specs.declared.wait.Wait.{Wait}
 use Rattle.lock_queues.specs.Locks.{Spot, Look, fits, wanted, wanted_by, waits_for, closes_ring, way_below, waits_now, is_ripe, first_ripe, next_grant}
 use Rattle.lock_queues.specs.Locks.{spots_from}
-use Rattle.bound_statements.specs.Plan.{Request, request, plan, nowait}
-use Rattle.machine_model.specs.Session.{Task, Do, asks, tasks_of, Session, note}
+use Rattle.bound_statements.specs.Levels.{asked}
+use Rattle.bound_statements.specs.Plan.{Request, request, nowait}
+use Rattle.machine_model.specs.Session.{Task, Do, asks, behind, in_status, tasks_of, Session, note}
+use Rattle.machine_model.specs.declared.status.Status.{Status}
 use Rattle.machine_model.specs.Go.{Run, look_with, taking, go}
 use Rattle.machine_model.specs.World.{World, fresh, session_at, look_of, scene_of, placed_back, goes, granted, settle, settle_for, left_of, left_to_do, noted}
 use Rattle.machine_model.specs.World.{send}
@@ -360,14 +362,16 @@ backed-asks n [] have ts b = b
 backed-asks n (q ∷ qs) have ts b = backed-asks n qs (q ∷ have) ts b
 
 -- the tasks of a step come after their requests
-pub backed-tasks : (ss : List Bound) → Backed [] (tasks_of ss)
-backed-tasks [] = tt
-backed-tasks (s ∷ ss) = backed-asks (nowait s) (plan s) [] (Do s ∷ tasks_of ss) (all-pushed (plan s) [], backed-tasks ss)
+pub backed-tasks : (x : Status) (ss : List Bound) → Backed [] (tasks_of x ss)
+backed-tasks x [] = tt
+backed-tasks x (s ∷ ss) =
+    let st = in_status x s in
+    backed-asks (nowait st) (asked st) [] (Do st ∷ tasks_of (behind x s) ss) (all-pushed (asked st) [], backed-tasks (behind x s) ss)
 
 -- a session that is sound and does not wait may go
-pub entering : (w : World) (i : ℕ) (s : Session) (ss : List Bound) → Steady w → i < length w.sessions → waits_now w.waits i ≡ false → s.held
-    ≡ (session_at w i).held → s.overlay ≡ (session_at w i).overlay → Entering w i s (tasks_of ss)
-entering w i s ss st lt idle h o =
+pub entering : (w : World) (i : ℕ) (s : Session) (x : Status) (ss : List Bound) → Steady w → i < length w.sessions → waits_now w.waits i ≡ false → s.held
+    ≡ (session_at w i).held → s.overlay ≡ (session_at w i).overlay → Entering w i s (tasks_of x ss)
+entering w i s x ss st lt idle h o =
     record {
       steady = st;
       idle = idle-each w.waits i idle;
@@ -376,7 +380,7 @@ entering w i s ss st lt idle h o =
       under = subst (λ h. UnderLocks s.overlay h) (sym h) (subst (λ o. UnderLocks o (session_at w i).held) (sym o) (st.under i));
       have = [];
       holds = tt;
-      backed = backed-tasks ss;
+      backed = backed-tasks x ss;
     }
 
 -- a session is changed in its transcript alone
@@ -440,7 +444,7 @@ send-sound steps w k sound lt = at (waits_now w.waits i) refl
     ss = (get_or steps k no_step).statements
 
     at : (b : Bool) → waits_now w.waits i ≡ b
-        → Sound (elim b [ true ↦ noted w i (NotSent k) | false ↦ settle (goes w i (note (session_at w i) (Sent k)) (tasks_of ss)) ])
+        → Sound (elim b [ true ↦ noted w i (NotSent k) | false ↦ settle (goes w i (note (session_at w i) (Sent k)) (tasks_of (session_at w i).status ss)) ])
     at true is = touched-sound w i (note (session_at w i) (NotSent k)) (record { overlay = refl; held = refl; rest = refl }) sound
-    at false is = settle-sound _ (goes-steady w i (note (session_at w i) (Sent k)) (tasks_of ss)
-        (entering w i (note (session_at w i) (Sent k)) ss (steady-of w sound) lt is refl refl))
+    at false is = settle-sound _ (goes-steady w i (note (session_at w i) (Sent k)) (tasks_of (session_at w i).status ss)
+        (entering w i (note (session_at w i) (Sent k)) (session_at w i).status ss (steady-of w sound) lt is refl refl))

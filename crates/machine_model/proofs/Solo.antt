@@ -31,17 +31,17 @@ worked-held P s rows (Faults f) p = tt
 
 perform_by-held : (P : Held → Type 0) → P empty → (status : Status) (k : Kind) (s : Session) (rows : Rows') (st : Bound) → P s.held
     → OnGoes (perform_by status k s rows st) (λ s2 rows2. P s2.held)
-perform_by-held P e Outside Begins s rows st p = p
-perform_by-held P e InBlock Begins s rows st p = p
-perform_by-held P e Broken Begins s rows st p = tt
+perform_by-held P e Outside (Begins level) s rows st p = p
+perform_by-held P e (InBlock of) (Begins level) s rows st p = p
+perform_by-held P e Broken (Begins level) s rows st p = tt
 perform_by-held P e Outside Commits s rows st p = e
-perform_by-held P e InBlock Commits s rows st p = e
+perform_by-held P e (InBlock of) Commits s rows st p = e
 perform_by-held P e Broken Commits s rows st p = e
 perform_by-held P e Outside RollsBack s rows st p = e
-perform_by-held P e InBlock RollsBack s rows st p = e
+perform_by-held P e (InBlock of) RollsBack s rows st p = e
 perform_by-held P e Broken RollsBack s rows st p = e
 perform_by-held P e Outside Works s rows st p = worked-held P s rows _ p
-perform_by-held P e InBlock Works s rows st p = worked-held P s rows _ p
+perform_by-held P e (InBlock of) Works s rows st p = worked-held P s rows _ p
 perform_by-held P e Broken Works s rows st p = tt
 
 -- a statement leaves what is held, or lets go of it all
@@ -56,7 +56,7 @@ Keeps P r m = (h : Held) → P h → P (insert h r (wanted (get h r) m))
 
 finished-held : (P : Held → Type 0) → P empty → (status : Status) (s : Session) (rows : Rows') → P s.held → P (finished_by status s rows).session.held
 finished-held P e Outside s rows p = e
-finished-held P e InBlock s rows p = p
+finished-held P e (InBlock of) s rows p = p
 finished-held P e Broken s rows p = p
 
 -- what holds of what is held, of nothing, and is kept by each request, holds at the end

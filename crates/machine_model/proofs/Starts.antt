@@ -71,17 +71,17 @@ idle-now w i e = ap (λ ws. waits_now ws i) e
 pub alone-goes : (control n : ℕ) (w : World) (block : List Bound) → control < n → IsAlone control n w → IsAlone control n (after_setup w control block)
 alone-goes control n w block lt a =
     let s = session_at w control in
-    let en : Entering w control s (tasks_of block) = entering w control s block a.steady (subst (λ k. control < k) (sym a.count) lt) (idle-now w control a.idle)
+    let en : Entering w control s (tasks_of s.status block) = entering w control s s.status block a.steady (subst (λ k. control < k) (sym a.count) lt) (idle-now w control a.idle)
     refl refl in
     let free = all-free (scene_of w) control (λ c r ne. ap (λ (x : Session). get x.held r) (a.others c ne)
-    ∙ get-empty resource_order Mode r) a.idle (tasks_of block) in
-    let gone : go (scene_of w) control s w.rows (tasks_of block) ≡ stopped (scene_of w) (solo s w.rows (tasks_of block)) =
-    go-solo (scene_of w) control s w.rows (tasks_of block) free (together-fits w a.steady.together control) in
+    ∙ get-empty resource_order Mode r) a.idle (tasks_of s.status block) in
+    let gone : go (scene_of w) control s w.rows (tasks_of s.status block) ≡ stopped (scene_of w) (solo s w.rows (tasks_of s.status block)) =
+    go-solo (scene_of w) control s w.rows (tasks_of s.status block) free (together-fits w a.steady.together control) in
     record {
-      steady = goes-steady w control s (tasks_of block) en;
+      steady = goes-steady w control s (tasks_of s.status block) en;
       idle = ap (λ (r : Run). r.waits) gone ∙ a.idle;
-      others = λ c ne. session-other w control c (go (scene_of w) control s w.rows (tasks_of block)) ne ∙ a.others c ne;
-      count = goes-count w control s (tasks_of block) en ∙ a.count;
+      others = λ c ne. session-other w control c (go (scene_of w) control s w.rows (tasks_of s.status block)) ne ∙ a.others c ne;
+      count = goes-count w control s (tasks_of s.status block) en ∙ a.count;
     }
 
 pub alone-forgets : (control n : ℕ) (w : World) → IsAlone control n w → IsAlone control n (forgotten w control)
@@ -121,22 +121,22 @@ pub idle-goes : (n i : ℕ) (w : World) (block : List Bound) → i < n → IsIdl
     → IsIdle n (forgotten (after_setup w i block) i)
 idle-goes n i w block lt a still =
     let s = session_at w i in
-    let en : Entering w i s (tasks_of block) = entering w i s block a.steady (subst (λ k. i < k) (sym a.count) lt) (idle-now w i a.idle) refl refl in
+    let en : Entering w i s (tasks_of s.status block) = entering w i s s.status block a.steady (subst (λ k. i < k) (sym a.count) lt) (idle-now w i a.idle) refl refl in
     let w2 : World = after_setup w i block in
     let s2 : Session = record (session_at w2 i) { transcript = [] } in
     record {
-      steady = touched-steady w2 i s2 (record { overlay = refl; held = refl; rest = refl }) (goes-steady w i s (tasks_of block) en);
-      idle = none (run w i s (tasks_of block) en).ends;
-      count = length-set w2.sessions i s2 ∙ goes-count w i s (tasks_of block) en ∙ a.count;
+      steady = touched-steady w2 i s2 (record { overlay = refl; held = refl; rest = refl }) (goes-steady w i s (tasks_of s.status block) en);
+      idle = none (run w i s (tasks_of s.status block) en).ends;
+      count = length-set w2.sessions i s2 ∙ goes-count w i s (tasks_of s.status block) en ∙ a.count;
     }
   where
-    none : ((go (scene_of w) i (session_at w i) w.rows (tasks_of block)).waits ≡ w.waits)
-        ⊎ Pending (scene_of w) i (length (tasks_of block)) (go (scene_of w) i (session_at w i) w.rows (tasks_of block))
-        → (go (scene_of w) i (session_at w i) w.rows (tasks_of block)).waits ≡ []
+    none : ((go (scene_of w) i (session_at w i) w.rows (tasks_of (session_at w i).status block)).waits ≡ w.waits)
+        ⊎ Pending (scene_of w) i (length (tasks_of (session_at w i).status block)) (go (scene_of w) i (session_at w i) w.rows (tasks_of (session_at w i).status block))
+        → (go (scene_of w) i (session_at w i) w.rows (tasks_of (session_at w i).status block)).waits ≡ []
     none (inl e) = e ∙ a.idle
     none (inr p) =
         let v : Wait = record { session = i; resource = p.resource; mode = p.mode } in
-        let e : (go (scene_of w) i (session_at w i) w.rows (tasks_of block)).waits ≡ v ∷ [] = p.waits ∙ ap (λ ws. ws ++ v ∷ []) a.idle in
+        let e : (go (scene_of w) i (session_at w i) w.rows (tasks_of (session_at w i).status block)).waits ≡ v ∷ [] = p.waits ∙ ap (λ ws. ws ++ v ∷ []) a.idle in
         let b : ((i == i) || false) ≡ false = sym (ap (λ ws. waits_now ws i) e) ∙ still in
         absurd (not_both _ (or_true_left (i == i) false (eq-eqb i i refl)) b)
 

@@ -1,6 +1,6 @@
 -- What statements that fit the tables take of rows that fit them, and the rows that they leave.
-use Rattle.std.proofs.Common.{◌≡◌, ◌≢◌, refl, sym, ap, ◌∙◌, subst, ℕ, zero, suc, ◌<◌, ◌≤◌, arith, Bool, true, false, cond, List, [], ◌∷◌, length, get_or, set}
-use Rattle.std.proofs.Common.{Option, Some, None, All, ℤ, pos, negsuc, ◌⊎◌, inl, inr, ⊎_elim}
+use Rattle.std.proofs.Common.{◌≡◌, ◌≢◌, refl, sym, ap, ◌∙◌, subst, ℕ, suc, ◌<◌, arith, Bool, true, false, cond, List, [], ◌∷◌, length, get_or, set}
+use Rattle.std.proofs.Common.{Option, Some, None, All, ℤ, pos, negsuc, ⊎_elim}
 use Rattle.std.proofs.Common.{length-set, get_or-set_same, get_or-set_other}
 use Rattle.std.specs.Prelude.{◌+ℤ◌, ◌-ℤ◌, ◌*ℤ◌, ⊤, ◌==◌, ◌&&◌, ◌||◌, map}
 use Rattle.std.specs.List.{filter}
@@ -31,20 +31,18 @@ use Rattle.bound_statements.specs.declared.statement.Bound.{Bound}
 use Rattle.bound_statements.specs.declared.statement.Bound.TheVariants.{Select, Insert, Update, Delete, Begin, Commit, Rollback, Lock, SetVariable}
 use Rattle.bound_statements.specs.declared.statement.Output.{Output}
 use Rattle.bound_statements.specs.declared.statement.Output.TheVariants.{Columns, Aggregates}
-use Rattle.bound_statements.specs.declared.statement.SortKey.{SortKey}
 use Rattle.binding_model.specs.declared.tables.ColumnType.{ColumnType}
 use Rattle.binding_model.specs.declared.tables.ColumnType.TheVariants.{Number}
 use Rattle.binding_model.specs.declared.tables.Table.{Table}
-use Rattle.bound_specs.specs.Fits.{IsThere, OperandIs, FactorsAre, ProductIs, TermsAre, ExpressionIs, ComparisonFits, ConditionFits, AggregateFits, OutputFits}
-use Rattle.bound_specs.specs.Fits.{SortKeyFits}
+use Rattle.bound_specs.specs.Fits.{IsThere, OperandIs, FactorsAre, TermsAre, ExpressionIs, ComparisonFits, ConditionFits, AggregateFits, OutputFits}
 use Rattle.bound_specs.specs.Fits.{AssignmentFits, Takes, IsColumn, ColumnOf, ValueIn, RowFits, OfTable, Fits}
 use Rattle.binding_model.specs.Statements.{sets_column, sets_key}
-use Rattle.binding_model.specs.Tables.{no_table, key_column, type_of, width}
+use Rattle.binding_model.specs.Tables.{no_table, key_column, type_of}
 use Rattle.binding_model.specs.Types.{value_type}
 use Rattle.events.specs.declared.event.Fault.TheVariants.{Duplicate, OutOfRange}
 use Rattle.events.specs.declared.event.Event.TheVariants.{Inserted, Updated, Deleted}
 use Rattle.statement_evaluation.specs.Evaluate.{in_range, checked, on_numbers, operand_value, times_each, product_value, plus_or_minus, plus_each, value_of}
-use Rattle.statement_evaluation.specs.Effect.{visible, Effect, Gives, Faults, effect, matching, assigned, all_assigned, placed, next_number, numbered, or_fault}
+use Rattle.statement_evaluation.specs.Effect.{visible, effect, matching, assigned, all_assigned, placed, next_number, numbered, or_fault}
 use Rattle.statement_evaluation.specs.Effect.{counted}
 use Rattle.statement_evaluation.proofs.ListLemmas.{Each, Each-map, Each-at}
 use Rattle.statement_evaluation.proofs.WriteLemmas.{OnSome, OnGives, leaves, any-some, each-kept, each-any, each-matching, each-all_assigned, each-placed}
@@ -110,7 +108,7 @@ module _ (Has Knows : ℕ → ColumnType → Type 0) (more : (c : ℕ) (kind : C
   takes (Delete n key c) h = condition c h
   takes (Insert n key rows) h = tt
   takes (Lock n mode r) h = tt
-  takes Begin h = tt
+  takes (Begin level) h = tt
   takes Commit h = tt
   takes Rollback h = tt
   takes SetVariable h = tt
@@ -321,7 +319,7 @@ module _ (tables : List Table) where
   each-taken (Delete n key c) fits rows h = taken (Delete n key c) n (λ p e. in-table n p (at_key key p.1) e) fits rows h
   each-taken (Insert n key new) fits rows h = each-any (λ (e : RowPlace × Tuple). ⊤) (λ e. tt) (entries (visible (Insert n key new) rows))
   each-taken (Lock n mode r) fits rows h = each-any (λ (e : RowPlace × Tuple). ⊤) (λ e. tt) (entries (visible (Lock n mode r) rows))
-  each-taken Begin fits rows h = each-any (λ (e : RowPlace × Tuple). ⊤) (λ e. tt) (entries (visible Begin rows))
+  each-taken (Begin level) fits rows h = each-any (λ (e : RowPlace × Tuple). ⊤) (λ e. tt) (entries (visible (Begin level) rows))
   each-taken Commit fits rows h = each-any (λ (e : RowPlace × Tuple). ⊤) (λ e. tt) (entries (visible Commit rows))
   each-taken Rollback fits rows h = each-any (λ (e : RowPlace × Tuple). ⊤) (λ e. tt) (entries (visible Rollback rows))
   each-taken SetVariable fits rows h = each-any (λ (e : RowPlace × Tuple). ⊤) (λ e. tt) (entries (visible SetVariable rows))
@@ -402,7 +400,7 @@ module _ (tables : List Table) where
       (each-matching (λ (e : RowPlace × Tuple). ⊤) c _ (each-any (λ (e : RowPlace × Tuple). ⊤) (λ e. tt) (entries (visible (Delete n key c) rows))))
   effect-fits (Lock n mode r) rows fits h = tt
   effect-fits SetVariable rows fits h = tt
-  effect-fits Begin rows fits h = tt
+  effect-fits (Begin level) rows fits h = tt
   effect-fits Commit rows fits h = tt
   effect-fits Rollback rows fits h = tt
 

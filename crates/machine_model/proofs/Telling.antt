@@ -64,6 +64,6 @@ effect-tells (Delete t key c) rows = told-matched (matching c (entries (visible 
     counted Deleted (map (λ (e : RowPlace × Tuple). record { place = e.0; left = None }) es)) (λ es. (refl, tt))
 effect-tells (Lock t m n) rows = (refl, tt)
 effect-tells SetVariable rows = (refl, tt)
-effect-tells Begin rows = tt
+effect-tells (Begin level) rows = tt
 effect-tells Commit rows = tt
 effect-tells Rollback rows = tt

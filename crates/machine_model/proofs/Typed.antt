@@ -1,5 +1,5 @@
 -- The rows of a run fit their tables.
-use Rattle.std.proofs.Common.{◌≡◌, ◌≢◌, refl, sym, ap, ◌∙◌, subst, ℕ, zero, suc, ◌<◌, ◌≤◌, arith, Bool, true, false, not, ◌||◌, List, [], ◌∷◌, ◌++◌, length}
+use Rattle.std.proofs.Common.{◌≡◌, sym, subst, ℕ, zero, suc, ◌<◌, ◌≤◌, arith, Bool, true, false, not, ◌||◌, List, [], ◌∷◌, ◌++◌, length}
 use Rattle.std.proofs.Common.{get_or, set, Option, Some, None, All, ◌⊎◌, ⊎_elim, length-set, get_or-set_same, get_or-set_other}
 use Rattle.std.specs.Prelude.{⊤}
 use Rattle.std.proofs.lemmas.List.{get_or_past}
@@ -9,7 +9,8 @@ use Rattle.lock_modes.specs.RowPlace.{place_order}
 use Rattle.lock_modes.specs.Rows.{Tuple, Rows'}
 use Rattle.lock_queues.specs.Locks.{Spot, next_grant, waits_now}
 use Rattle.row_tables.specs.Overlay.{lay}
-use Rattle.bound_statements.specs.Plan.{Request, plan, nowait}
+use Rattle.bound_statements.specs.Levels.{asked}
+use Rattle.bound_statements.specs.Plan.{Request, nowait}
 use Rattle.bound_statements.specs.declared.statement.Bound.{Bound}
 use Rattle.binding_model.specs.declared.tables.Table.{Table}
 use Rattle.bound_specs.specs.Fits.{Fits, SpecFits}
@@ -22,7 +23,8 @@ use Rattle.statement_evaluation.proofs.ListLemmas.{Each}
 use Rattle.statement_evaluation.proofs.WriteLemmas.{OnGives}
 use Rattle.machine_model.specs.declared.status.Status.{Status}
 use Rattle.machine_model.specs.declared.status.Status.TheVariants.{Outside, InBlock, Broken}
-use Rattle.machine_model.specs.Session.{Task, Ask, Do, Session, Kind, Begins, Commits, RollsBack, Works, kind, note, asks, tasks_of, Performed, Goes, Fails}
+use Rattle.machine_model.proofs.Levels.{fits-in_status}
+use Rattle.machine_model.specs.Session.{Task, Ask, Do, Session, Kind, Begins, Commits, RollsBack, Works, kind, note, asks, behind, in_status, tasks_of, Performed, Goes, Fails}
 use Rattle.machine_model.specs.Session.{worked, perform_by, perform}
 use Rattle.machine_model.specs.Go.{Scene, Run, go, taking, is_broken, reply_in, finished_by, stopped, failed, held_up}
 use Rattle.machine_model.specs.declared.reply.Reply.{Reply}
@@ -79,9 +81,12 @@ module _ (tables : List Table) where
   asks-fit n [] ts h = h
   asks-fit n (q ∷ qs) ts h = (tt, asks-fit n qs ts h)
 
-  tasks-fit : (ss : List Bound) → All (Fits tables) ss → Each (TaskFits tables) (tasks_of ss)
-  tasks-fit [] h = tt
-  tasks-fit (s ∷ ss) h = asks-fit (nowait s) (plan s) (Do s ∷ tasks_of ss) (All-head (Fits tables) s ss h, tasks-fit ss (All-tail (Fits tables) s ss h))
+  tasks-fit : (x : Status) (ss : List Bound) → All (Fits tables) ss → Each (TaskFits tables) (tasks_of x ss)
+  tasks-fit x [] h = tt
+  tasks-fit x (s ∷ ss) h =
+      let st = in_status x s in
+      asks-fit (nowait st) (asked st) (Do st ∷ tasks_of (behind x s) ss)
+      (fits-in_status tables x s (All-head (Fits tables) s ss h), tasks-fit (behind x s) ss (All-tail (Fits tables) s ss h))
 
   abbrev PerformedFits : Performed → Type 0
   PerformedFits (Goes s rows) = EachSession s × EachFits tables rows
@@ -94,18 +99,18 @@ module _ (tables : List Table) where
 
   perform_by-fits : (b : Status) (k : Kind) (s : Session) (rows : Rows') (st : Bound) → Fits tables st → EachSession s → EachFits tables rows
       → PerformedFits (perform_by b k s rows st)
-  perform_by-fits Outside Begins s rows st fits h all = (record { overlay = h.overlay; rest = h.rest }, all)
-  perform_by-fits InBlock Begins s rows st fits h all = (record { overlay = h.overlay; rest = h.rest }, all)
-  perform_by-fits Broken Begins s rows st fits h all = tt
+  perform_by-fits Outside (Begins level) s rows st fits h all = (record { overlay = h.overlay; rest = h.rest }, all)
+  perform_by-fits (InBlock of) (Begins level) s rows st fits h all = (record { overlay = h.overlay; rest = h.rest }, all)
+  perform_by-fits Broken (Begins level) s rows st fits h all = tt
   perform_by-fits Outside Commits s rows st fits h all = (record { overlay = no-overlay; rest = h.rest }, lay-fits tables s.overlay rows h.overlay all)
-  perform_by-fits InBlock Commits s rows st fits h all = (record { overlay = no-overlay; rest = h.rest }, lay-fits tables s.overlay rows h.overlay all)
+  perform_by-fits (InBlock of) Commits s rows st fits h all = (record { overlay = no-overlay; rest = h.rest }, lay-fits tables s.overlay rows h.overlay all)
   perform_by-fits Broken Commits s rows st fits h all = (record { overlay = no-overlay; rest = h.rest }, all)
   perform_by-fits Outside RollsBack s rows st fits h all = (record { overlay = no-overlay; rest = h.rest }, all)
-  perform_by-fits InBlock RollsBack s rows st fits h all = (record { overlay = no-overlay; rest = h.rest }, all)
+  perform_by-fits (InBlock of) RollsBack s rows st fits h all = (record { overlay = no-overlay; rest = h.rest }, all)
   perform_by-fits Broken RollsBack s rows st fits h all = (record { overlay = no-overlay; rest = h.rest }, all)
   perform_by-fits Outside Works s rows st fits h all =
       worked-fits s rows (effect st (lay s.overlay rows)) (effect-fits tables st (lay s.overlay rows) fits (lay-fits tables s.overlay rows h.overlay all)) h all
-  perform_by-fits InBlock Works s rows st fits h all =
+  perform_by-fits (InBlock of) Works s rows st fits h all =
       worked-fits s rows (effect st (lay s.overlay rows)) (effect-fits tables st (lay s.overlay rows) fits (lay-fits tables s.overlay rows h.overlay all)) h all
   perform_by-fits Broken Works s rows st fits h all = tt
 
@@ -117,7 +122,7 @@ module _ (tables : List Table) where
     session = record { overlay = no-overlay; rest = h.rest };
     rows = lay-fits tables s.overlay rows h.overlay all;
   }
-  finished-fits e InBlock s rows h all = record { session = record { overlay = h.overlay; rest = h.rest }; rows = all }
+  finished-fits e (InBlock of) s rows h all = record { session = record { overlay = h.overlay; rest = h.rest }; rows = all }
   finished-fits e Broken s rows h all = record { session = record { overlay = h.overlay; rest = h.rest }; rows = all }
 
   go-fits : (e : Scene) (i : ℕ) (s : Session) (rows : Rows') (ts : List Task) → EachSession s → EachFits tables rows → Each (TaskFits tables) ts
@@ -188,21 +193,21 @@ module _ (tables : List Table) where
       at : (b : Bool) → EachWorld (elim b [
         | true ↦ noted w i (NotSent k)
         | false ↦ settle
-            (goes w i (note s (Sent k)) (tasks_of (get_or steps k no_step).statements))
+            (goes w i (note s (Sent k)) (tasks_of s.status (get_or steps k no_step).statements))
       ])
       at true = put-fits w i (note s (NotSent k)) h (record { overlay = (h.sessions i).overlay; rest = (h.sessions i).rest })
       at false =
-          let v = goes w i (note s (Sent k)) (tasks_of (get_or steps k no_step).statements) in
+          let v = goes w i (note s (Sent k)) (tasks_of s.status (get_or steps k no_step).statements) in
           settle_for-fits (left_to_do v) v
-          (goes-fits w i (note s (Sent k)) (tasks_of (get_or steps k no_step).statements) h
-          (record { overlay = (h.sessions i).overlay; rest = (h.sessions i).rest }) (tasks-fit (get_or steps k no_step).statements fits))
+          (goes-fits w i (note s (Sent k)) (tasks_of s.status (get_or steps k no_step).statements) h
+          (record { overlay = (h.sessions i).overlay; rest = (h.sessions i).rest }) (tasks-fit s.status (get_or steps k no_step).statements fits))
 
   -- ---- from the start of a spec
 
   setup-fits : (w : World) (i : ℕ) (block : List Bound) → All (Fits tables) block → EachWorld w → EachWorld (forgotten (after_setup w i block) i)
   setup-fits w i block fits h =
       let v = after_setup w i block in
-      let gone = goes-fits w i (session_at w i) (tasks_of block) h (h.sessions i) (tasks-fit block fits) in
+      let gone = goes-fits w i (session_at w i) (tasks_of (session_at w i).status block) h (h.sessions i) (tasks-fit (session_at w i).status block fits) in
       put-fits v i (record (session_at v i) { transcript = [] }) gone (record { overlay = (gone.sessions i).overlay; rest = (gone.sessions i).rest })
 
   main-fits : (control k : ℕ) (w : World) (blocks : List (List Bound)) → All (All (Fits tables)) blocks → EachWorld w

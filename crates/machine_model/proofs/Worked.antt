@@ -10,9 +10,9 @@ use Rattle.lock_modes.specs.declared.mode.Mode.TheVariants.{Share, Exclusive}
 use Rattle.lock_modes.specs.declared.value.Value.{Value}
 use Rattle.lock_modes.specs.declared.value.Value.TheVariants.{Int}
 use Rattle.events.specs.declared.event.Event.{Event}
-use Rattle.events.specs.declared.event.Event.TheVariants.{Sent, Row as RowEvent, Rows, Inserted, Updated, Deleted, Committed, RolledBack, Locked, Warned}
+use Rattle.events.specs.declared.event.Event.TheVariants.{Sent, Row as RowEvent, Rows, Inserted, Updated, Deleted, Began, Committed, RolledBack, Locked, Warned}
 use Rattle.events.specs.declared.event.Event.TheVariants.{Failed, Waiting, Resumed, Done, NotSent}
-use Rattle.events.specs.declared.event.Warning.TheVariants.{NoBlock}
+use Rattle.events.specs.declared.event.Warning.TheVariants.{InBlock, NoBlock}
 use Rattle.events.specs.declared.event.Fault.TheVariants.{Duplicate, OutOfRange, Deadlock, Aborted, Unavailable}
 use Rattle.bound_statements.specs.declared.expression.Operand.{Operand}
 use Rattle.bound_statements.specs.declared.expression.Operand.TheVariants.{Literal, Column}
@@ -22,6 +22,8 @@ use Rattle.bound_statements.specs.declared.condition.Comparison.TheVariants.{Sam
 use Rattle.bound_statements.specs.declared.condition.Condition.{Condition}
 use Rattle.bound_statements.specs.declared.condition.Condition.TheVariants.{Always, Compares}
 use Rattle.bound_statements.specs.declared.statement.Aggregate.TheVariants.{Count, Sum}
+use Rattle.bound_statements.specs.declared.statement.Level.{Level}
+use Rattle.bound_statements.specs.declared.statement.Level.TheVariants.{Serializable, Committed as AtCommitted}
 use Rattle.bound_statements.specs.declared.statement.Order.TheVariants.{Falls}
 use Rattle.bound_statements.specs.declared.statement.Output.TheVariants.{Columns, Aggregates}
 use Rattle.bound_statements.specs.declared.statement.RowLock.{RowLock}
@@ -43,7 +45,7 @@ id_is n = Compares (alone (Column 0)) Same (alone (Literal (number n)))
 
 -- a select that locks no more than it reads
 abbrev pub shares : RowLock
-shares = record { exclusive = false; nowait = false }
+shares = record { exclusive = false; nowait = false; level = None }
 
 -- a step of the session with one statement
 abbrev pub step : ℕ → Bound → Step
@@ -65,7 +67,7 @@ abbrev pub transcripts : Spec → List ℕ → List (List Event)
 transcripts spec ks = elim (start spec) [ Started w ↦ outcome_of spec.sessions (send_all spec.steps w ks) | _ ↦ [] ]
 
 abbrev pub in_blocks : ℕ → List Step → Spec
-in_blocks n steps = record { sessions = n; steps = steps; setups = two_rows ∷ []; lines = []; session_setups = (Begin ∷ []) ∷ (Begin ∷ []) ∷ [] }
+in_blocks n steps = record { sessions = n; steps = steps; setups = two_rows ∷ []; lines = []; session_setups = (Begin None ∷ []) ∷ (Begin None ∷ []) ∷ [] }
 
 abbrev pub waits_row : Spec
 waits_row = in_blocks 2 (step 0 (adds 1 1) ∷ step 0 Commit ∷ step 1 (adds 1 10) ∷ step 1 Commit ∷ [])
@@ -96,7 +98,7 @@ waiters_row =
       steps = step 0 (Select 0 (Some (number 1)) (id_is 1) [] (Columns (1 ∷ [])) shares) ∷ step 0 all_rows ∷ step 1 all_rows ∷ step 1 Commit ∷ step 2 (sets 2 5) ∷ [];
       setups = two_rows ∷ [];
       lines = [];
-      session_setups = (Begin ∷ []) ∷ (Begin ∷ []) ∷ [] ∷ [];
+      session_setups = (Begin None ∷ []) ∷ (Begin None ∷ []) ∷ [] ∷ [];
     }
 
 -- a reader that comes after the waiting writer but holds the table already passes it
@@ -123,7 +125,7 @@ deletes ending =
       steps = step 0 (Delete 0 (Some (number 1)) (id_is 1)) ∷ step 0 ending ∷ step 1 (Insert 0 (Some 0) ((number 1 ∷ number 7 ∷ []) ∷ [])) ∷ [];
       setups = two_rows ∷ [];
       lines = [];
-      session_setups = (Begin ∷ []) ∷ [] ∷ [];
+      session_setups = (Begin None ∷ []) ∷ [] ∷ [];
     }
 
 delete_commits : transcripts (deletes Commit) (0 ∷ 2 ∷ 1 ∷ [])
@@ -199,7 +201,7 @@ range_row =
           step 0 Commit ∷ step 0 Commit ∷ [];
       setups = two_rows ∷ [];
       lines = [];
-      session_setups = (Begin ∷ []) ∷ [];
+      session_setups = (Begin None ∷ []) ∷ [];
     }
 
 range_row_is : transcripts range_row (0 ∷ 1 ∷ 2 ∷ 3 ∷ [])
@@ -222,8 +224,8 @@ reads_one lock = Select 0 (Some (number 1)) (id_is 1) [] (Columns (1 ∷ [])) lo
 
 abbrev pub not_waiting_row : Spec
 not_waiting_row =
-    in_blocks 2 (step 0 (reads_one (record { exclusive = true; nowait = false })) ∷ step 0 Commit
-    ∷ step 1 (reads_one (record { exclusive = false; nowait = true })) ∷ step 1 Commit ∷ [])
+    in_blocks 2 (step 0 (reads_one (record { exclusive = true; nowait = false; level = None })) ∷ step 0 Commit
+    ∷ step 1 (reads_one (record { exclusive = false; nowait = true; level = None })) ∷ step 1 Commit ∷ [])
 
 -- a statement that refuses to wait has its locks where they are free
 not_waiting_row_first : transcripts not_waiting_row (0 ∷ 1 ∷ 2 ∷ 3 ∷ [])
@@ -247,3 +249,70 @@ ring_or_not_is : transcripts ring_or_not (0 ∷ 2 ∷ 1 ∷ 3 ∷ [])
     ≡ (Sent 0 ∷ Locked ∷ Done ∷ Sent 1 ∷ Waiting ∷ Resumed ∷ Locked ∷ Done ∷ []) ∷ (Sent 2 ∷ Locked ∷ Done ∷ Sent 3 ∷ Failed Unavailable ∷ Done ∷ []) ∷ []
 unfolding get insert keep remove entries empty effect lay
 ring_or_not_is = refl
+
+-- ---- READ COMMITTED, where it is asked for
+
+-- a plain SELECT v WHERE id = 1
+abbrev pub reads : Bound
+reads = Select 0 (Some (number 1)) (id_is 1) [] (Columns (1 ∷ [])) (record { exclusive = false; nowait = false; level = Some AtCommitted })
+
+-- both sessions read, write and commit in blocks: a at READ COMMITTED, b at a level
+abbrev pub level_row : Level → Spec
+level_row level = record {
+  sessions = 2;
+  steps = step 0 reads ∷ step 0 (sets 1 11) ∷ step 0 Commit ∷ step 1 reads ∷ step 1 (sets 1 12) ∷ step 1 Commit ∷ [];
+  setups = two_rows ∷ [];
+  lines = [];
+  session_setups = (Begin (Some AtCommitted) ∷ []) ∷ (Begin (Some level) ∷ []) ∷ [];
+}
+
+-- an update is lost: both read 10, and nobody fails
+lost_update : transcripts (level_row AtCommitted) (0 ∷ 3 ∷ 1 ∷ 4 ∷ 2 ∷ 5 ∷ [])
+    ≡ (Sent 0 ∷ RowEvent (number 10 ∷ []) ∷ Rows 1 ∷ Done ∷ Sent 1 ∷ Updated 1 ∷ Done ∷ Sent 2 ∷ Committed ∷ Done ∷ [])
+    ∷ (Sent 3 ∷ RowEvent (number 10 ∷ []) ∷ Rows 1 ∷ Done ∷ Sent 4 ∷ Waiting ∷ Resumed ∷ Updated 1 ∷ Done ∷ Sent 5 ∷ Committed ∷ Done ∷ []) ∷ []
+unfolding get insert keep remove entries empty effect lay
+lost_update = refl
+
+-- what another session has not committed is not seen, and what it commits then is
+beside_a_writer : transcripts (level_row AtCommitted) (1 ∷ 3 ∷ 2 ∷ 3 ∷ [])
+    ≡ (Sent 1 ∷ Updated 1 ∷ Done ∷ Sent 2 ∷ Committed ∷ Done ∷ [])
+    ∷ (Sent 3 ∷ RowEvent (number 10 ∷ []) ∷ Rows 1 ∷ Done ∷ Sent 3 ∷ RowEvent (number 11 ∷ []) ∷ Rows 1 ∷ Done ∷ []) ∷ []
+unfolding get insert keep remove entries empty effect lay
+beside_a_writer = refl
+
+-- a session sees its own writes
+own_writes : transcripts (level_row AtCommitted) (1 ∷ 0 ∷ []) ≡ (Sent 1 ∷ Updated 1 ∷ Done ∷ Sent 0 ∷ RowEvent (number 11 ∷ []) ∷ Rows 1 ∷ Done ∷ []) ∷ [] ∷ []
+unfolding get insert keep remove entries empty effect lay
+own_writes = refl
+
+-- a block at SERIALIZABLE beside it waits to read
+serializable_beside : transcripts (level_row Serializable) (1 ∷ 3 ∷ 2 ∷ [])
+    ≡ (Sent 1 ∷ Updated 1 ∷ Done ∷ Sent 2 ∷ Committed ∷ Done ∷ [])
+    ∷ (Sent 3 ∷ Waiting ∷ Resumed ∷ RowEvent (number 11 ∷ []) ∷ Rows 1 ∷ Done ∷ []) ∷ []
+unfolding get insert keep remove entries empty effect lay
+serializable_beside = refl
+
+-- the level of a BEGIN counts from there on, that of another BEGIN in the block does not, and behind the block it is the default again
+abbrev pub in_step_row : Spec
+in_step_row = record {
+  sessions = 2;
+  steps = step 0 (sets 1 11)
+      ∷ record { session = 1; statements = reads ∷ Begin (Some Serializable) ∷ Begin (Some AtCommitted) ∷ [] }
+      ∷ step 1 reads ∷ record { session = 1; statements = Rollback ∷ reads ∷ [] } ∷ [];
+  setups = two_rows ∷ [];
+  lines = [];
+  session_setups = (Begin (Some AtCommitted) ∷ []) ∷ [] ∷ [];
+}
+
+in_step_waits : transcripts in_step_row (0 ∷ 1 ∷ 2 ∷ [])
+    ≡ (Sent 0 ∷ Updated 1 ∷ Done ∷ [])
+    ∷ (Sent 1 ∷ RowEvent (number 10 ∷ []) ∷ Rows 1 ∷ Began ∷ Warned InBlock ∷ Began ∷ Done ∷ Sent 2 ∷ Waiting ∷ []) ∷ []
+unfolding get insert keep remove entries empty effect lay
+in_step_waits = refl
+
+in_step_ends : transcripts in_step_row (0 ∷ 1 ∷ 3 ∷ [])
+    ≡ (Sent 0 ∷ Updated 1 ∷ Done ∷ [])
+    ∷ (Sent 1 ∷ RowEvent (number 10 ∷ []) ∷ Rows 1 ∷ Began ∷ Warned InBlock ∷ Began ∷ Done
+    ∷ Sent 3 ∷ RolledBack ∷ RowEvent (number 10 ∷ []) ∷ Rows 1 ∷ Done ∷ []) ∷ []
+unfolding get insert keep remove entries empty effect lay
+in_step_ends = refl

@@ -45,7 +45,7 @@ failed s rows f = record { session = broken_off s f; rows = rows }
 -- outside a block the step's statements are a transaction that commits
 abbrev pub finished_by : Status → Session → Rows' → Stop
 finished_by Outside s rows = record { session = note (released s) Done; rows = lay s.overlay rows }
-finished_by InBlock s rows = record { session = note s Done; rows = rows }
+finished_by (InBlock level) s rows = record { session = note s Done; rows = rows }
 finished_by Broken s rows = record { session = note s Done; rows = rows }
 
 -- the session's own locks, and those of the others
@@ -77,7 +77,7 @@ taking s r m = record s { held = insert s.held r (wanted (get s.held r) m) }
 
 abbrev pub is_broken : Status → Bool
 is_broken Outside = false
-is_broken InBlock = false
+is_broken (InBlock level) = false
 is_broken Broken = true
 
 abbrev pub go : Scene → ℕ → Session → Rows' → List Task → Run

@@ -6,7 +6,8 @@ use Rattle.lock_modes.specs.Mode.{AtLeast}
 use Rattle.lock_queues.specs.declared.wait.Wait.{Wait}
 use Rattle.lock_queues.specs.Locks.{next_grant, waits_for}
 pub use Rattle.lock_queues.specs.Sound.{Way, one, more, NoRing, HeldTogether, EachWait, Distinct}
-use Rattle.bound_statements.specs.Plan.{Tuple, Request, request, plan}
+use Rattle.bound_statements.specs.Levels.{asked}
+use Rattle.bound_statements.specs.Plan.{Tuple, Request, request}
 use Rattle.machine_model.specs.World.{World, look_of, session_at}
 use Rattle.row_tables.specs.Overlay.{Overlay}
 use Rattle.machine_model.specs.Session.{Held, Task, Ask, Do}
@@ -38,7 +39,7 @@ AllIn (q ∷ qs) have = IsIn q have × AllIn qs have
 abbrev pub Backed : List Request → List Task → Type 0
 Backed have [] = Unit {0}
 Backed have (Ask nowait r m ∷ ts) = Backed (request r m ∷ have) ts
-Backed have (Do st ∷ ts) = AllIn (plan st) have × Backed [] ts
+Backed have (Do st ∷ ts) = AllIn (asked st) have × Backed [] ts
 
 -- a waiting session has what is left of its step, behind the request that it waits for
 pub record Ready (w : World) (v : Wait) : Type 0 where

@@ -43,7 +43,7 @@ has_failed s = list_any is_failure s.transcript
 
 abbrev pub is_outside : Status → Bool
 is_outside Outside = true
-is_outside InBlock = false
+is_outside (InBlock level) = false
 is_outside Broken = false
 
 -- the session's transcript is forgotten
@@ -51,7 +51,7 @@ abbrev pub forgotten : World → ℕ → World
 forgotten w i = record w { sessions = set w.sessions i (record (session_at w i) { transcript = [] }) }
 
 abbrev pub after_setup : World → ℕ → List Bound → World
-after_setup w i block = goes w i (session_at w i) (tasks_of block)
+after_setup w i block = goes w i (session_at w i) (tasks_of (session_at w i).status block)
 
 abbrev pub main_setups : ℕ → ℕ → World → List (List Bound) → Start
 main_setups control n w [] = Started w

@@ -61,13 +61,13 @@ settle w = settle_for (left_to_do w) w
 abbrev pub noted : World → ℕ → Event → World
 noted w i e = record w { sessions = set w.sessions i (note (session_at w i) e) }
 
--- the step numbered k is sent
+-- the step numbered k is sent, at the level where its session stands
 abbrev pub send : List Step → World → ℕ → World
 send steps w k =
     let st = get_or steps k no_step in
     elim (waits_now w.waits st.session) [
       | true ↦ noted w st.session (NotSent k)
-      | false ↦ settle (goes w st.session (note (session_at w st.session) (Sent k)) (tasks_of st.statements))
+      | false ↦ settle (goes w st.session (note (session_at w st.session) (Sent k)) (tasks_of (session_at w st.session).status st.statements))
     ]
 
 abbrev pub send_all : List Step → World → List ℕ → World

@@ -1,6 +1,6 @@
 //! The laws of the machine, each the contract of a function that does nothing.
 
-ghost use Rattle.machine_model.specs.Laws.{SendKeepsSound, WaitsAreRings, StartsSound, WaitersReach, OutcomesAreOwn, WorldsReachedAreSound};
+ghost use Rattle.machine_model.specs.Laws.{LevelsChangeNothing, SendKeepsSound, StatusesAreForeseen, WaitsAreRings, StartsSound, WaitersReach, OutcomesAreOwn, WorldsReachedAreSound};
 ghost use Rattle.machine_model.specs.Typed.{GoingKeepsFit, WorldsFit, RowsSeenFit, NoDefaultIsMet, NumbersAreNew};
 
 /// A step sent leaves a sound world sound: held modes compatible, overlays under locks, no ripe wait, no ring.
@@ -51,4 +51,14 @@ pub fn no_default_is_met()
 /// Rows that fit are never overwritten by new ones where there is no key: the number that the first new row gets is past those of all rows there.
 pub fn numbers_are_new()
     ensures { NumbersAreNew }
+{}
+
+/// Where statements ask for their whole plans at each level, as all do where levels are not asked for, no level has an effect.
+pub fn levels_change_nothing()
+    ensures { LevelsChangeNothing }
+{}
+
+/// A step's tasks are made when it is sent, each statement at the level of the transaction in which it will run.
+pub fn statuses_are_foreseen()
+    ensures { StatusesAreForeseen }
 {}

@@ -6,8 +6,8 @@ mod reply;
 mod status;
 
 pub use laws::{
-    no_default_is_met, outcomes_are_own, rows_fit, send_keeps_sound, starts_sound, waiters_reach,
-    waits_are_rings, worlds_reached_are_sound,
+    levels_change_nothing, no_default_is_met, outcomes_are_own, rows_fit, send_keeps_sound,
+    starts_sound, statuses_are_foreseen, waiters_reach, waits_are_rings, worlds_reached_are_sound,
 };
 pub use reply::Reply;
 pub use status::Status;

@@ -2,11 +2,14 @@ ghost use Rattle.std.specs.Prelude.{◌≡◌};
 ghost use Rattle.machine_model.specs.Go.{is_broken};
 ghost use Rattle.machine_model.specs.Start.{is_outside};
 
+use bound_statements::Level;
+
 /// Where a session stands with its transaction block.
 #[derive(Clone, Copy, PartialEq, Eq)]
 pub enum Status {
     Outside,
-    InBlock,
+    /// In a block of this level.
+    InBlock(Level),
     /// The block has failed: only its end has an effect.
     Broken,
 }

@@ -7,28 +7,31 @@ use statement_evaluation::{Entries, Entry, holds};
 use statement_execution::{Sight, number_after};
 use std::alloc::{AllocError, Global};
 
-/// Rows as they are now, whatever they were at marks.
+/// Rows as one session sees them now, as if no other had written, and whatever they were at marks.
 #[derive(Clone, Copy)]
 pub(crate) struct MarkedSight<'a> {
     pub(crate) rows: &'a MarkedRows,
+    pub(crate) session: u8,
 }
 
 impl<'a> Sight<'a> for MarkedSight<'a> {
-    ghost layers = { λ s. s.rows.now.now };
+    ghost use Rattle.row_tables.specs.Layers.{only};
 
-    fn read(self, session: u8, table: u16, key: &Value) -> Option<&'a Row> {
-        self.rows.read(session, table, key)
+    ghost layers = { λ s. only s.session s.rows.now.now };
+
+    fn read(self, _session: u8, table: u16, key: &Value) -> Option<&'a Row> {
+        self.rows.read(self.session, table, key)
     }
 
     fn matching_in(
         self,
         alloc: Global,
-        session: u8,
+        _session: u8,
         table: u16,
         condition: &Condition,
     ) -> Result<Option<Entries<'a>>, AllocError> {
         let mut found = Entries::new(alloc);
-        for (key, row) in self.rows.scan(session, table) {
+        for (key, row) in self.rows.scan(self.session, table) {
             let Some(passes) = holds(row, condition) else {
                 return Ok(None);
             };
@@ -37,9 +40,9 @@ impl<'a> Sight<'a> for MarkedSight<'a> {
         Ok(Some(found))
     }
 
-    fn next_number(self, session: u8, table: u16) -> u64 {
+    fn next_number(self, _session: u8, table: u16) -> u64 {
         let mut next = 1;
-        for (key, _) in self.rows.scan(session, table) {
+        for (key, _) in self.rows.scan(self.session, table) {
             next = number_after(key, next);
         }
         next

@@ -3,7 +3,8 @@
 ghost use Rattle.std.specs.Prelude.{◌≡◌, ◌<◌, ◌++◌, ◌∷◌, [], IfOk, OnOk, length, set};
 ghost use Rattle.row_tables.specs.Layers.{sight};
 ghost use Rattle.statement_evaluation.specs.Effect.{effect};
-ghost use Rattle.statement_execution.specs.Run.{SeesAlone, WritesAlone, events_of, fault_of, left_by, wrote_each};
+ghost use Rattle.statement_evaluation.specs.Borrowed.{effect_at};
+ghost use Rattle.statement_execution.specs.Run.{MayLook, WritesAlone, events_of, fault_of, left_by, wrote_each};
 ghost use Rattle.event_tree.specs.Lists.{Keeps};
 ghost use Rattle.marked_logs.specs.Logs.{told_to};
 
@@ -16,8 +17,8 @@ use statement_evaluation::{Few, Given, Write, Writes};
 use statement_execution::effect_of;
 use std::alloc::{AllocError, Global};
 
-/// Runs a statement whose locks are had: its whole effect on the rows that its session sees now, or none where it fails. Tells the session of it; where it
-/// fails, the fault is the answer and nothing is told.
+/// Runs a statement that has asked for its locks: its whole effect on the rows that its session sees now, or none where it fails. Tells the session of it;
+/// where it fails, the fault is the answer and nothing is told. Where others have written, a select shows what is committed.
 ///
 /// The call fails for want of memory alone. Then what stands now is good for nothing more; what was there at marks stays. Lists that were told stay
 /// whatever comes of it, also where nobody is told them any more.
@@ -28,7 +29,7 @@ pub fn run_statement(
     rows: &mut MarkedRows,
     logs: &mut MarkedLogs<Event>,
 ) -> Result<Option<Fault>, AllocError>
-    requires alone { SeesAlone session statement.now rows.old.now }
+    requires alone { MayLook session statement.now rows.old.now }
     requires inside { session < length logs.old.now }
     ensures fault { IfOk result (λ fault. fault ≡ fault_of (effect statement.now (sight session rows.old.now))) }
     ensures left { OnOk result (rows.new.now ≡ left_by session (effect statement.now (sight session rows.old.now)) rows.old.now) }
@@ -40,7 +41,7 @@ pub fn run_statement(
     ensures sessions { length logs.new.now ≡ length logs.old.now }
     ensures lists { Keeps logs.old.lists logs.new.lists }
 {
-    match effect_of(alloc, statement, session, MarkedSight { rows: &*rows })? {
+    match effect_in(alloc, statement, session, &*rows)? {
         Given::Failed(fault) => Ok(Some(fault)),
         Given::Told(events, writes) => {
             write_each(rows, session, writes)?;
@@ -48,6 +49,18 @@ pub fn run_statement(
             Ok(None)
         }
     }
+}
+
+/// The effect of a statement on the rows that its session sees now.
+fn effect_in(
+    alloc: Global,
+    statement: &Bound,
+    session: u8,
+    rows: &MarkedRows,
+) -> Result<Given, AllocError>
+    ensures { IfOk result (λ given. effect_at given ≡ effect statement.now (sight session rows.now.now)) }
+{
+    effect_of(alloc, statement, session, MarkedSight { rows, session })
 }
 
 /// Leaves these in the rows. Where memory runs out the rows now are good for nothing more.

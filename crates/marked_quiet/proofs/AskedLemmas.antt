@@ -1,7 +1,7 @@
 -- What a step asks for is what its statements' plans by numbers ask for.
 use Rattle.std.specs.List.{list_all}
 use Rattle.std.proofs.Common.{◌≡◌, ◌≢◌, ◌<◌, ◌≤◌, ◌∙◌, ◌⊎◌, refl, sym, ap, subst, inl, inr, arith, ℕ, suc}
-use Rattle.std.proofs.Common.{Bool, true, false, not, ◌&&◌, ◌==◌, List, [], ◌∷◌, length, map, take, get_or, All}
+use Rattle.std.proofs.Common.{Bool, true, false, not, ◌&&◌, ◌==◌, List, [], ◌∷◌, length, map, take, get_or, All, None}
 use Rattle.std.proofs.lemmas.Bool.{false_from_ne_true}
 use Rattle.std.proofs.lemmas.Bool.Decides.{eqb_tells}
 use Rattle.std.proofs.lemmas.List.{take_all}
@@ -65,7 +65,7 @@ module _ (spec : Spec) (numbers : Numbers) (is : IsNumbering spec numbers) (step
 
   -- what a plan asks for has numbers
   pub plan-known : (k : ℕ) → k < length (plans_of numbers.plans step) → All (HasRequest numbers.resources) (get_or (plans_of numbers.plans step) k [])
-  plan-known k lt = (are.1 k Begin (let e = are.0 in omega (arith, e, lt))).known
+  plan-known k lt = (are.1 k (Begin None) (let e = are.0 in omega (arith, e, lt))).known
 
 -- ---- requests for another resource
 

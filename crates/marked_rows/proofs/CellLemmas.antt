@@ -1,6 +1,8 @@
 -- The layers of cells, by one cell more and by one that changes.
 use Rattle.std.proofs.Common.{◌≡◌, ◌≢◌, refl, sym, ap, ◌∙◌, ℕ, ◌<◌, ◌==◌, Bool, true, false, cond, ◌⊎◌, inl, inr, ⊎_elim}
 use Rattle.std.proofs.Common.{List, [], ◌∷◌, length, get_or, set, Option, Some, None, get_or-set_other, get_or-set_same, subst}
+use Rattle.std.proofs.Common.{eq-eqb}
+use Rattle.std.proofs.lemmas.Bool.{ne_eqb}
 use Rattle.std.proofs.lemmas.Bool.Decides.{eqb_tells}
 use Rattle.finite_maps.specs.Map
 use Rattle.finite_maps.specs.Map.{empty, get, get-empty, get-insert, same_key, same_key-refl}
@@ -156,26 +158,33 @@ module _ (rows : List Tuple) where
           ap (λ b. cond b (Some (row_with rows left.row)) None) (same_key-refl session_order left.session) in
           cc
 
-  -- what is seen of a cell in which no other session has left anything
-  seen-over : (s : ℕ) (committed : Option ℕ) (left : Option Left) → IsOpen rows s left
-      → over (own rows s left) (row_with rows committed) ≡ row_with rows (seen_over committed left)
-  seen-over s committed None open_to = refl
-  seen-over s committed (Some left) open_to =
-      ap (λ t. over (cond (same_key session_order t left.session) (Some (row_with rows left.row)) None) (row_with rows committed)) (sym (mine left s open_to))
-      ∙ ap (λ b. over (cond b (Some (row_with rows left.row)) None) (row_with rows committed)) (same_key-refl session_order left.session)
+  -- what a session sees of a cell
+  seen-over : (s : ℕ) (committed : Option ℕ) (left : Option Left)
+      → over (own rows s left) (row_with rows committed) ≡ row_with rows (seen_over s committed left)
+  seen-over s committed None = refl
+  seen-over s committed (Some left) = at (decided left.session s)
+    where
+      at : (left.session ≡ s) ⊎ (left.session ≢ s) → over (own rows s (Some left)) (row_with rows committed) ≡ row_with rows (seen_over s committed (Some left))
+      at (inl same) =
+          ap (λ b. over (cond b (Some (row_with rows left.row)) None) (row_with rows committed))
+          (ap (λ t. same_key session_order t left.session) (sym same) ∙ same_key-refl session_order left.session)
+          ∙ sym (ap (λ b. row_with rows (cond b left.row committed)) (eq-eqb left.session s same))
+      at (inr ne) =
+          ap (λ b. over (cond b (Some (row_with rows left.row)) None) (row_with rows committed)) (key-other session_order s left.session (λ e. ne (sym e)))
+          ∙ sym (ap (λ b. row_with rows (cond b left.row committed)) (ne_eqb left.session s ne))
 
   only-writer : (cells : List Cell) (es : List (RowPlace × ℕ)) (p : RowPlace) (n s : ℕ) → AreApart es → IsPlaceOf es p n
       → IsOnlyWriterAt s p (layers_of rows cells es) → IsOpen rows s (get_or cells n blank).left
   only-writer cells es p n s apart there only other ne = sym (overlay-there rows cells es p n other apart there) ∙ only other ne
 
-  -- a session sees what the place's cell shows
+  -- a session sees what the place's cell shows it
   pub sight-there : (cells : List Cell) (es : List (RowPlace × ℕ)) (p : RowPlace) (n s : ℕ) → AreApart es → IsPlaceOf es p n
-      → IsOnlyWriterAt s p (layers_of rows cells es) → get (sight s (layers_of rows cells es)) p ≡ row_with rows (seen (get_or cells n blank))
-  sight-there cells es p n s apart there only =
+      → get (sight s (layers_of rows cells es)) p ≡ row_with rows (seen s (get_or cells n blank))
+  sight-there cells es p n s apart there =
       get-lay (overlay_of s (layers_of rows cells es)) (layers_of rows cells es).committed p
       ∙ ap (λ o. over o (get (layers_of rows cells es).committed p)) (overlay-there rows cells es p n s apart there)
       ∙ ap (over (own rows s (get_or cells n blank).left)) (committed-there rows cells es p n apart there)
-      ∙ seen-over s (get_or cells n blank).committed (get_or cells n blank).left (only-writer cells es p n s apart there only)
+      ∙ seen-over s (get_or cells n blank).committed (get_or cells n blank).left
 
   -- ---- a write
 

@@ -1,5 +1,5 @@
 -- What is kept, and seen, behind each call.
-use Rattle.std.proofs.Common.{◌≡◌, sym, ap, ◌∙◌, subst, ℕ, zero, suc, ◌+◌, ◌<◌, ◌≤◌, ◌⊎◌, inl, inr, false, true, arith, refl}
+use Rattle.std.proofs.Common.{◌≡◌, ◌==◌, Bool, cond, sym, ap, ◌∙◌, subst, ℕ, zero, suc, ◌+◌, ◌<◌, ◌≤◌, ◌⊎◌, inl, inr, false, true, arith, refl}
 use Rattle.std.proofs.Common.{List, [], ◌∷◌, ◌++◌, length, get_or, set, slice_get, take, Option, Some, None, Result, Ok, Err, OnOk, OnErr, length-append}
 use Rattle.std.specs.Option.{option_to_list}
 use Rattle.std.specs.declared.alloc.AllocError.{AllocError}
@@ -142,9 +142,9 @@ module _ (index : Index) (rows : Versions Tuple) (cells : Versions Cell) (writte
   read-none s p absent = sight-absent rows.list cells.list index.entries s p absent
 
   -- the row that a place's cell shows is seen there
-  pub read-cell : (s : ℕ) (p : RowPlace) (n : ℕ) → IsPlaceOf index.entries p n → IsOnlyWriterAt s p Seen
-      → get (sight s Seen) p ≡ row_with rows.list (seen (get_or cells.list n blank))
-  read-cell s p n is only = sight-there rows.list cells.list index.entries p n s kept.apart is only
+  pub read-cell : (s : ℕ) (p : RowPlace) (n : ℕ) → IsPlaceOf index.entries p n
+      → get (sight s Seen) p ≡ row_with rows.list (seen s (get_or cells.list n blank))
+  read-cell s p n is = sight-there rows.list cells.list index.entries p n s kept.apart is
 
   -- no row is committed at a place that is not there
   pub committed-none : (p : RowPlace) → IsAbsent p index.entries → get Seen.committed p ≡ None
@@ -155,21 +155,25 @@ module _ (index : Index) (rows : Versions Tuple) (cells : Versions Cell) (writte
       → get Seen.committed p ≡ row_with rows.list (get_or cells.list n blank).committed
   committed-cell p n is = committed-there rows.list cells.list index.entries p n kept.apart is
 
-  seen-number : (c : Cell) → HasRows rows.list c → IsNumber rows.list (seen c)
-  seen-number c has = at c.left has.1
+  seen-number : (s : ℕ) (c : Cell) → HasRows rows.list c → IsNumber rows.list (seen s c)
+  seen-number s c has = at c.left has.1
     where
-      at : (left : Option Left) → IsLeft rows.list left → IsNumber rows.list (seen_over c.committed left)
+      either : (b : Bool) (mine : Option ℕ) → IsNumber rows.list mine → IsNumber rows.list (cond b mine c.committed)
+      either true mine there = there
+      either false mine there = has.0
+
+      at : (left : Option Left) → IsLeft rows.list left → IsNumber rows.list (seen_over s c.committed left)
       at None there = has.0
-      at (Some left) there = there
+      at (Some left) there = either (left.session == s) left.row there
 
   pub shown-number : (which : Sight) (c : Cell) → HasRows rows.list c → IsNumber rows.list (shown_of which c)
-  shown-number Own c has = seen-number c has
+  shown-number (Own s) c has = seen-number s c has
   shown-number Committed c has = has.0
 
   -- its number is that of a row
-  pub read-number : (n number : ℕ) → seen (get_or cells.list n blank) ≡ Some number → number < length rows.list
-  read-number n number is =
-      subst (IsNumber rows.list) is (seen-number (get_or cells.list n blank) (all-get rows.list cells.list n kept.now.there))
+  pub read-number : (s n number : ℕ) → seen s (get_or cells.list n blank) ≡ Some number → number < length rows.list
+  read-number s n number is =
+      subst (IsNumber rows.list) is (seen-number s (get_or cells.list n blank) (all-get rows.list cells.list n kept.now.there))
 
   -- ---- a write
 

@@ -8,7 +8,7 @@ use Rattle.finite_maps.specs.Map.{get}
 use Rattle.lock_modes.specs.RowPlace.{RowPlace}
 use Rattle.lock_modes.specs.Rows.{Rows', Tuple}
 use Rattle.lock_modes.specs.declared.value.Value.{Value}
-use Rattle.row_tables.specs.Layers.{IsOnlyWriterAt, IsOnlyWriterIn, rows_of, sight}
+use Rattle.row_tables.specs.Layers.{rows_of, sight}
 use Rattle.row_tables.proofs.TableLemmas.{is_rows_of}
 use Rattle.marked_lists.specs.Versions.{Versions}
 use Rattle.marked_rows.specs.Cells.{blank, layers_of, row_with}
@@ -66,12 +66,10 @@ module _ (index : Index) (rows : Versions Tuple) (cells : Versions Cell) (writte
           at (t, x) found.0.cell refl place ∙ ap (row_with rows.list) (sym found.3)
 
   -- they are those that a session sees
-  pub seen-rows : (s : ℕ) → IsOnlyWriterIn s t (layers_of rows.list cells.list index.entries)
-      → shown rows.list (keys_of es) (numbers_of Own cells.list es) ≡ rows_of t (sight s (layers_of rows.list cells.list index.entries))
-  seen-rows s only =
-      scan-rows Own (sight s (layers_of rows.list cells.list index.entries))
-      (λ p n same is. read-cell index rows cells written kept s p n is
-      (subst (λ u. IsOnlyWriterAt s (u, p.1) (layers_of rows.list cells.list index.entries)) (sym same) (only p.1)))
+  pub seen-rows : (s : ℕ)
+      → shown rows.list (keys_of es) (numbers_of (Own s) cells.list es) ≡ rows_of t (sight s (layers_of rows.list cells.list index.entries))
+  seen-rows s =
+      scan-rows (Own s) (sight s (layers_of rows.list cells.list index.entries)) (λ p n same is. read-cell index rows cells written kept s p n is)
       (read-none index rows cells written kept s)
 
   -- or those that are committed

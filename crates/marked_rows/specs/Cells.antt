@@ -1,5 +1,5 @@
 -- The rows that sessions see, by a cell for each place that was ever written.
-use Rattle.std.specs.Prelude.{ℕ, List, [], ◌∷◌, get_or, slice_get, Option, Some, None}
+use Rattle.std.specs.Prelude.{ℕ, cond, ◌==◌, List, [], ◌∷◌, get_or, slice_get, Option, Some, None}
 use Rattle.lock_modes.specs.RowPlace.{RowPlace}
 use Rattle.lock_modes.specs.Rows.{Tuple}
 use Rattle.row_tables.specs.Overlay.{laid}
@@ -23,13 +23,13 @@ row_with rows (Some number) = slice_get rows number
 abbrev pub blank : Cell
 blank = record { committed = None; left = None }
 
--- what is seen where nobody else has written
-abbrev pub seen_over : Option ℕ → Option Left → Option ℕ
-seen_over committed None = committed
-seen_over committed (Some left) = left.row
+-- what a session sees: what it has left itself, or else what is committed
+abbrev pub seen_over : ℕ → Option ℕ → Option Left → Option ℕ
+seen_over session committed None = committed
+seen_over session committed (Some left) = cond (left.session == session) left.row committed
 
-abbrev pub seen : Cell → Option ℕ
-seen cell = seen_over cell.committed cell.left
+abbrev pub seen : ℕ → Cell → Option ℕ
+seen session cell = seen_over session cell.committed cell.left
 
 -- the layers with a row, or none, committed at a place
 abbrev pub committed_at : RowPlace → Option Tuple → Layers → Layers

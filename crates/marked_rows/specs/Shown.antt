@@ -9,9 +9,9 @@ use Rattle.marked_rows.specs.declared.cell.Cell.{Cell}
 use Rattle.marked_rows.specs.declared.cell.Sight.{Sight}
 use Rattle.marked_rows.specs.declared.cell.Sight.TheVariants.{Committed, Own}
 
--- the number of the row that is shown of a cell: of what is seen where nobody else has written, or of what is committed
+-- the number of the row that is shown of a cell: of what a session sees, or of what is committed
 abbrev pub shown_of : Sight → Cell → Option ℕ
-shown_of Own cell = seen cell
+shown_of (Own session) cell = seen session cell
 shown_of Committed cell = cell.committed
 
 -- the numbers of the rows that are shown of the cells of keys

@@ -36,8 +36,8 @@ pub(crate) enum Ending {
 /// Which row of a cell is shown.
 #[derive(Clone, Copy)]
 pub(crate) enum Sight {
-    /// What the session that has written there has left, else the committed one.
-    Own,
+    /// What this session has left there, else the committed one.
+    Own(u8),
     /// The committed one, whatever was left there.
     Committed,
 }
@@ -53,12 +53,18 @@ impl Cell {
         }
     }
 
-    /// The row that the session has left which has written there, else the committed one.
-    pub fn seen(&self) -> Option<usize>
-        ensures { result ≡ seen self.now }
+    /// The row that a session sees: what it has left there, else the committed one.
+    pub fn seen(&self, session: u8) -> Option<usize>
+        ensures { result ≡ seen session self.now }
     {
         match self.left {
-            Some(left) => left.row,
+            Some(left) => {
+                if left.session == session {
+                    left.row
+                } else {
+                    self.committed
+                }
+            }
             None => self.committed,
         }
     }
@@ -68,7 +74,7 @@ impl Cell {
         ensures { result ≡ shown_of sight self.now }
     {
         match sight {
-            Sight::Own => self.seen(),
+            Sight::Own(session) => self.seen(session),
             Sight::Committed => self.committed,
         }
     }

@@ -7,7 +7,7 @@ ghost use Rattle.finite_maps.specs.Entries.{IsInOrder};
 ghost use Rattle.finite_maps.specs.Map.{get};
 ghost use Rattle.lock_modes.specs.Value.{value_cmp};
 ghost use Rattle.lock_modes.specs.declared.value.Value.{Value as Key};
-ghost use Rattle.row_tables.specs.Layers.{IsOnlyWriterAt, IsOnlyWriterIn, kept, no_rows, rows_of, sight, undone, wrote};
+ghost use Rattle.row_tables.specs.Layers.{IsOnlyWriterAt, kept, no_rows, rows_of, sight, undone, wrote};
 ghost use Rattle.marked_rows.specs.Kept.{ended_layers};
 
 use crate::cell::{Cell, Ending, Sight, Written};
@@ -68,20 +68,17 @@ impl MarkedRows {
         }
     }
 
-    /// The row that a session sees at a key of a table. No other session may have a write there that is neither kept nor undone.
+    /// The row that a session sees at a key of a table, whatever others have written and not kept.
     pub fn read(&self, session: u8, table: u16, key: &Value) -> Option<&Row>
-        requires { IsOnlyWriterAt session (table, key.now) self.now.now }
         ensures { option_copied result ≡ get (sight session self.now.now) (table, key.now) }
     {
         let place = self.places.cell_of(table, key)?;
-        let number = shown_in(self.cells.as_slice(), place, Sight::Own)?;
+        let number = shown_in(self.cells.as_slice(), place, Sight::Own(session))?;
         Some(self.rows.get(number))
     }
 
-    /// The rows of a table that a session sees, in the order of their keys. No other session may have a write in the table that is neither kept nor
-    /// undone. It takes no memory.
+    /// The rows of a table that a session sees, in the order of their keys, whatever others have written and not kept. It takes no memory.
     pub fn scan(&self, session: u8, table: u16) -> Scan<'_>
-        requires { IsOnlyWriterIn session table self.now.now }
         ensures rows { result ≡ rows_of table (sight session self.now.now) }
 
         // Each row of the table comes once, in the order of the keys, and no row of another table comes.
@@ -89,7 +86,7 @@ impl MarkedRows {
         ensures each { (key : Key) → find value_cmp key result ≡ get (sight session self.now.now) (table, key) }
     {
         let keys = self.places.table(table);
-        Scan::new(&self.rows, keys, self.cells.as_slice(), Sight::Own)
+        Scan::new(&self.rows, keys, self.cells.as_slice(), Sight::Own(session))
     }
 
     /// The committed rows of a table in the order of their keys, whatever sessions have written and not kept. It takes no memory.

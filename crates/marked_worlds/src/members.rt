@@ -5,7 +5,7 @@ ghost use Rattle.std.specs.Prelude.{◌≡◌, ◌≤◌, ◌<◌, ◌∷◌, []
 ghost use Rattle.std.specs.List.{list_any};
 ghost use Rattle.row_tables.specs.Layers.{sight};
 ghost use Rattle.statement_evaluation.specs.Effect.{effect};
-ghost use Rattle.statement_execution.specs.Run.{SeesAlone, events_of, fault_of, left_by};
+ghost use Rattle.statement_execution.specs.Run.{MayLook, events_of, fault_of, left_by};
 ghost use Rattle.machine_model.specs.Start.{is_failure};
 ghost use Rattle.session_steps.specs.Stage.{no_member, note_member, transcripts_of};
 ghost use Rattle.marked_worlds.specs.Members.{silenced, told_all, with_rest, with_status};
@@ -208,7 +208,7 @@ impl MarkedMembers {
         session: u8,
         rows: &mut MarkedRows,
     ) -> Result<Option<Fault>, AllocError>
-        requires alone { SeesAlone session statement.now rows.old.now }
+        requires alone { MayLook session statement.now rows.old.now }
         requires inside { session < length self.old.list }
         ensures fault { IfOk result (λ fault. fault ≡ fault_of (effect statement.now (sight session rows.old.now))) }
         ensures left { OnOk result (rows.new.now ≡ left_by session (effect statement.now (sight session rows.old.now)) rows.old.now) }

@@ -7,6 +7,7 @@ use crate::members::StatusAndRest;
 use crate::told::{are_of, nodes_of};
 use event_tree::NodeId;
 use events::Event;
+use machine_model::Status;
 use marked_lists::MarkedList;
 use marked_logs::MarkedLogs;
 use session_steps::Rest;
@@ -72,7 +73,19 @@ fn are_same(kept: &[StatusAndRest], others: &[StatusAndRest]) -> bool
 fn is_same(one: StatusAndRest, other: StatusAndRest) -> bool
     ensures { result ≡ true → one ≡ other }
 {
-    one.status == other.status && is_same_rest(one.rest, other.rest)
+    is_same_status(one.status, other.status) && is_same_rest(one.rest, other.rest)
+}
+
+/// Whether a session stands the same with its block, the level of the block included.
+fn is_same_status(status: Status, other: Status) -> bool
+    ensures { result ≡ true → status ≡ other }
+{
+    match (status, other) {
+        (Status::Outside, Status::Outside) => true,
+        (Status::InBlock(level), Status::InBlock(other)) => level == other,
+        (Status::Broken, Status::Broken) => true,
+        _ => false,
+    }
 }
 
 /// Whether the same is left of a step, or nothing both times.

@@ -171,4 +171,4 @@ kept rs spec steps names are = record { rise = names.rise; known = known }
         let within : i < length (plans_of steps k) = subst (λ ps. i < length ps) same inside in
         let sent = step-plans.0 in
         subst (λ ps. All (HasRequest rs) (get_or ps i e)) (sym same)
-        (subst (All (HasRequest rs)) (sym (get_or_default (plans_of steps k) i e [] within)) (step-plans.1 i Begin (omega (arith, sent, within))).known)
+        (subst (All (HasRequest rs)) (sym (get_or_default (plans_of steps k) i e [] within)) (step-plans.1 i (Begin None) (omega (arith, sent, within))).known)

@@ -105,7 +105,7 @@ effect-known (Delete t key c) rows =
     deleted-each (IsKnownPlace (Delete t key c) rows) c (entries (visible (Delete t key c) rows)) (seen-known (Delete t key c) rows)
 effect-known (Lock t m n) rows = tt
 effect-known SetVariable rows = tt
-effect-known Begin rows = tt
+effect-known (Begin level) rows = tt
 effect-known Commit rows = tt
 effect-known Rollback rows = tt
 

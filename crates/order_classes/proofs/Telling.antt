@@ -58,7 +58,7 @@ still-parts (y ∷ ys) x h =
 wants : (o : Option Want) (b : Status) → waits (standing_by o b) ≡ true → (want : Want) × (o ≡ Some want)
 wants (Some want) b h = (want, refl)
 wants None Outside h = cc
-wants None InBlock h = cc
+wants None (InBlock level) h = cc
 wants None Broken h = cc
 
 waits-so : (w : World) (i : ℕ) → (waits (standing_of w i) ≡ true) ↔ (waits_now w.waits i ≡ true)

@@ -9,17 +9,15 @@ use Rattle.std.specs.Result.{IfOk, IfErr}
 use Rattle.spec_reader.specs.Tree.{StepTree, SessionTree}
 use Rattle.spec_reader.specs.Names.{is_among, AreNew}
 use Rattle.spec_reader.specs.Names as read
-use Rattle.bound_statements.specs.declared.statement.Bound.{Bound}
-use Rattle.binding_model.specs.declared.tables.Table.{Table}
-use Rattle.bound_specs.specs.Spec.{SpecFile, Step, ranks, line_of}
+use Rattle.bound_specs.specs.Levels.{levelled_file}
+use Rattle.bound_specs.specs.Spec.{SpecFile, IsReady, line_of}
 use Rattle.bound_specs.specs.Lines.{step_names, orders_of}
-use Rattle.bound_specs.specs.Binding.{BoundSession, session, declared, main_setup, made_file, shaped, IsFileOf}
+use Rattle.bound_specs.specs.Binding.{session, declared, main_setup, made_file, shaped, written_file, IsFileAt}
 use Rattle.binding_model.specs.Refusals.{each}
 use Rattle.bound_specs.proofs.FileLemmas.{bind}
-use Rattle.spec_binding.proofs.FileLemmas.{file-is-ready}
 use Rattle.order_names.specs.declared.error.OrderError.{OrderError}
 use Rattle.order_names.specs.declared.error.OrderError.TheVariants.{UnknownStep, Again, OutOfTurn, LeftOut, NoLine, NoMemory}
-use Rattle.order_names.specs.Orders.{Name, name_of, IsStepNamed, HasOrder, IsRankOf, HasNoRank, StandsBefore, AreKnown, AreInTurn, IsFirstWrong, IsWrong, IsRefused}
+use Rattle.order_names.specs.Orders.{Name, name_of, IsStepNamed, IsRankOf, HasNoRank, StandsBefore, AreKnown, AreInTurn, IsFirstWrong, IsWrong, IsRefused}
 use Rattle.order_names.specs.Steps.{IsRankOfLine, IsNoLine, IsSent, AreStepsInTurn, IsWrongLine}
 
 -- ---- names of which none stands twice
@@ -61,17 +59,20 @@ same-names (s ∷ ss) = λ i. map (λ (t : StepTree). t.name) s.steps ++ same-na
 abbrev pub HasOwnNames : SpecFile → Type 0
 HasOwnNames file = (k l : ℕ) → k < length file.run.steps → l < length file.run.steps → name_of file k ≡ name_of file l → k ≡ l
 
-pub names-own : (text : List ℕ) (file : SpecFile) → IsFileOf text file → HasOwnNames file
-names-own text file is k l in_k in_l same =
+pub names-own : (text : List ℕ) (file : SpecFile) → IsFileAt text file → IsReady file → HasOwnNames file
+names-own text file is ready k l in_k in_l same =
     let tree = is.tree in
-    let a = bind (shaped (orders_of tree)) _ file is.is_bound in
-    let b = bind (declared main_setup [] tree.front.setups) _ file a.1.1 in
+    let w = bind (written_file text tree) _ file is.is_bound in
+    let a = bind (shaped (orders_of tree)) _ w.0 w.1.0 in
+    let b = bind (declared main_setup [] tree.front.setups) _ w.0 a.1.1 in
     let main = b.0 in
-    let c = bind (each (session main.0) tree.sessions) _ file b.1.1 in
-    let made : made_file text tree a.0 main.1 c.0 ≡ file = cc (c.1.1) in
-    let names : file.step_names ≡ read.step_names tree.sessions = ap (λ (f : SpecFile). f.step_names) (sym made) ∙ same-names tree.sessions in
+    let c = bind (each (session main.0) tree.sessions) _ w.0 b.1.1 in
+    let made : made_file text tree a.0 main.1 c.0 ≡ w.0 = cc (c.1.1) in
+    let levelled : levelled_file file.asked w.0 ≡ file = cc (w.1.1) in
+    let names : file.step_names ≡ read.step_names tree.sessions =
+    ap (λ (f : SpecFile). f.step_names) (sym levelled) ∙ ap (λ (f : SpecFile). f.step_names) (sym made) ∙ same-names tree.sessions in
     let new : AreNew [] file.step_names = subst (AreNew []) (sym names) is.is_spec.keeps.names.of_steps in
-    let many = (file-is-ready text file is).step_names in
+    let many = ready.step_names in
     one-place file.step_names new k l (omega (arith, many, in_k)) (omega (arith, many, in_l)) same
 
 -- ---- names and numbers, place by place

@@ -1,10 +1,12 @@
 -- What each call answers, in the caller's buffer, and how it ends.
-use Rattle.std.specs.Prelude.{◌≡◌, ◌≢◌, ℕ, ◌<◌, ◌≤◌, ◌⊎◌, Bool, false, None, List, [], length, take, IsUtf8}
+use Rattle.std.specs.Prelude.{◌≡◌, ◌≢◌, ℕ, ◌<◌, ◌≤◌, ◌⊎◌, Bool, false, Option, None, List, [], length, take, IsUtf8}
+use Rattle.bound_statements.specs.declared.statement.Level.{Level}
 use Rattle.bound_specs.specs.Binding.{IsFileOf}
 use Rattle.bound_specs.specs.Spec.{SpecFile, ranks}
 use Rattle.machine_model.specs.Start.{start}
 use Rattle.session_machine.specs.Running.{IsNotRunBy}
 use Rattle.spec_binding.specs.SpecFiles.{IsNoSpec}
+use Rattle.spec_levels.specs.Levelled.{IsLevelledSpec, IsWrongLevel}
 use Rattle.spec_binding.specs.declared.spec.SpecFault.{SpecFault}
 use Rattle.spec_checks.specs.Checking.{IsCheck}
 use Rattle.spec_commands.specs.Showing.{IsShowingOf}
@@ -51,25 +53,27 @@ IsRanksCall bytes end answered =
 
 -- ---- one order
 
--- why an order is not shown: the bytes are no spec file; the rank is no rank; the line is not run; or memory ran out
+-- why an order is not shown: the bytes are no spec file; what it says of levels is wrong; the rank is no rank; the line is not run; or memory ran
+-- out
 abbrev pub IsNotShown : List ℕ → ℕ → ShowFault → Type 0
 IsNotShown bytes rank (show_fault.Spec fault) = IsNoSpec bytes fault
+IsNotShown bytes rank (show_fault.Level fault) = IsWrongLevel bytes None fault
 IsNotShown bytes rank (show_fault.NoRank fault) = ⊥
-IsNotShown bytes rank show_fault.OutOfRange = (file : SpecFile) × IsFileOf bytes file × (ranks file.run ≤ rank)
-IsNotShown bytes rank (show_fault.Run error) = (file : SpecFile) × IsFileOf bytes file × (rank < ranks file.run) × IsNotRunBy error (start file.run)
+IsNotShown bytes rank show_fault.OutOfRange = (file : SpecFile) × IsLevelledSpec bytes None file × (ranks file.run ≤ rank)
+IsNotShown bytes rank (show_fault.Run error) = (file : SpecFile) × IsLevelledSpec bytes None file × (rank < ranks file.run) × IsNotRunBy error (start file.run)
 IsNotShown bytes rank show_fault.NoMemory = Unit {0}
 IsNotShown bytes rank (show_fault.Write fault) = Unit {0}
 
 -- it is put in the buffer, or the call ends so; a name that is no UTF-8 is refused first
 abbrev pub IsShowCall : List ℕ → List ℕ → ℕ → List ℕ → List ℕ → End → ℕ → Type 0
 IsShowCall bytes name rank old new end answered =
-    (((text : List ℕ) × IsShowingOf bytes name (Rank rank) Json text × IsPut text (end_of ANSWERED) old new end answered)
+    (((text : List ℕ) × IsShowingOf bytes name (Rank rank) Json None text × IsPut text (end_of ANSWERED) old new end answered)
     ⊎ ((fault : ShowFault) × IsNotShown bytes rank fault × HasNoText (show_end fault) old new end answered))
     ⊎ ((¬ (IsUtf8 name)) × HasNoText (end_of NO_NAME) old new end answered)
 
 -- ---- all orders in classes
 
--- all orders that clients can send as JSON, by all that they show or by what they answer
+-- all orders that clients can send as JSON, at the level for which the file asks, by all that they show or by what they answer
 pub record IsWanted (answers : Bool) (wanted : WantedClasses) : Type 0 where
   pub sent : wanted.all_orders ≡ false
   pub undrawn : wanted.sample ≡ None
@@ -81,22 +85,24 @@ pub record IsWanted (answers : Bool) (wanted : WantedClasses) : Type 0 where
   pub no_outcomes : wanted.outcomes ≡ false
   pub nothing_left : wanted.final_rows ≡ false
   pub as_json : wanted.form ≡ form.Json
+  pub as_asked : wanted.level ≡ None
 
--- why classes are not told: the bytes are no spec file; the orders are not run; there is no room for all states; or memory ran out
-abbrev pub AreNotTold : List ℕ → ClassesFault → Type 0
-AreNotTold bytes (classes_fault.Spec fault) = IsNoSpec bytes fault
-AreNotTold bytes (classes_fault.Run error) = (file : SpecFile) × IsFileOf bytes file × IsNotRunBy error (start file.run)
-AreNotTold bytes (classes_fault.Asked fault) = Unit {0}
-AreNotTold bytes (classes_fault.TooMany noted) = (file : SpecFile) × IsFileOf bytes file × MayHaveManyStates None file
-AreNotTold bytes classes_fault.NoMemory = Unit {0}
-AreNotTold bytes (classes_fault.Write fault) = Unit {0}
+-- why classes are not told: the bytes are no spec file; what it says of levels is wrong; the orders are not run; there is no room for all states; or memory ran out
+abbrev pub AreNotTold : List ℕ → Option Level → ClassesFault → Type 0
+AreNotTold bytes level (classes_fault.Spec fault) = IsNoSpec bytes fault
+AreNotTold bytes level (classes_fault.Level fault) = IsWrongLevel bytes level fault
+AreNotTold bytes level (classes_fault.Run error) = (file : SpecFile) × IsLevelledSpec bytes level file × IsNotRunBy error (start file.run)
+AreNotTold bytes level (classes_fault.Asked fault) = Unit {0}
+AreNotTold bytes level (classes_fault.TooMany noted) = (file : SpecFile) × IsLevelledSpec bytes level file × MayHaveManyStates None file
+AreNotTold bytes level classes_fault.NoMemory = Unit {0}
+AreNotTold bytes level (classes_fault.Write fault) = Unit {0}
 
 -- it is put in the buffer, or the call ends so; a name that is no UTF-8 is refused first
 abbrev pub IsClassesCall : List ℕ → List ℕ → Bool → List ℕ → List ℕ → End → ℕ → Type 0
 IsClassesCall bytes name answers old new end answered =
     (((wanted : WantedClasses) × IsWanted answers wanted
     × ((text : List ℕ) × IsTellingOf bytes name wanted text × IsPut text (end_of ANSWERED) old new end answered))
-    ⊎ ((fault : ClassesFault) × AreNotTold bytes fault × HasNoText (classes_end fault) old new end answered))
+    ⊎ ((fault : ClassesFault) × AreNotTold bytes None fault × HasNoText (classes_end fault) old new end answered))
     ⊎ ((¬ (IsUtf8 name)) × HasNoText (end_of NO_NAME) old new end answered)
 
 -- ---- what is wrong with a spec

@@ -13,12 +13,14 @@ use Rattle.session_machine.specs.declared.error.RunError.{RunError}
 use Rattle.session_machine.specs.declared.error.RunError.TheVariants as run_error
 use Rattle.spec_binding.specs.declared.spec.SpecFault.{SpecFault}
 use Rattle.spec_binding.specs.declared.spec.SpecFault.TheVariants as spec_fault
+use Rattle.spec_levels.specs.declared.asking.LevelFaultKind.{LevelFaultKind}
+use Rattle.spec_levels.specs.declared.asking.LevelFaultKind.TheVariants as level_fault
 use Rattle.spec_commands.specs.declared.showing.ShowFault.{ShowFault}
 use Rattle.spec_commands.specs.declared.showing.ShowFault.TheVariants as show_fault
 use Rattle.class_commands.specs.declared.classing.ClassesFault.{ClassesFault}
 use Rattle.class_commands.specs.declared.classing.ClassesFault.TheVariants as classes_fault
 use Rattle.page_core.specs.declared.ending.End.{End}
-use Rattle.page_core.specs.declared.ending.TheConstants.{NO_SPEC, NO_SQL, UNBOUND, NO_RANK, NO_START, NO_MEMORY, TOO_MANY}
+use Rattle.page_core.specs.declared.ending.TheConstants.{NO_SPEC, NO_SQL, UNBOUND, NO_RANK, NO_START, NO_MEMORY, TOO_MANY, NO_LEVEL}
 
 -- an end with no kind and no place
 abbrev pub end_of : ℕ → End
@@ -52,9 +54,19 @@ run_end (run_error.Start error) = start_end error
 run_end run_error.NoMemory = end_of NO_MEMORY
 run_end run_error.TooDeep = end_of NO_MEMORY
 
+-- what the file says of levels is wrong
+abbrev pub level_number : LevelFaultKind → ℕ
+level_number level_fault.NoSuchLevel = 1
+level_number level_fault.SecondLevel = 2
+level_number level_fault.NotModelled = 3
+
+abbrev pub level_end : ℕ → LevelFaultKind → End
+level_end line kind = record { fault = NO_LEVEL; kind = level_number kind; place = line }
+
 -- an order is not shown
 abbrev pub show_end : ShowFault → End
 show_end (show_fault.Spec fault) = spec_end fault
+show_end (show_fault.Level fault) = level_end fault.line fault.kind
 show_end (show_fault.NoRank fault) = end_of NO_RANK
 show_end show_fault.OutOfRange = end_of NO_RANK
 show_end (show_fault.Run error) = run_end error
@@ -64,6 +76,7 @@ show_end (show_fault.Write fault) = end_of NO_MEMORY
 -- classes are not told
 abbrev pub classes_end : ClassesFault → End
 classes_end (classes_fault.Spec fault) = spec_end fault
+classes_end (classes_fault.Level fault) = level_end fault.line fault.kind
 classes_end (classes_fault.Asked fault) = end_of NO_MEMORY
 classes_end (classes_fault.Run error) = run_end error
 classes_end (classes_fault.TooMany noted) = record { fault = TOO_MANY; kind = 0; place = noted }

@@ -52,6 +52,7 @@ fn wanted(alloc: Global, answers: bool) -> WantedClasses<'static>
         outcomes: false,
         final_rows: false,
         form: WantedForm::Json,
+        level: None,
     }
 }
 
@@ -62,7 +63,7 @@ fn classed<'a>(
     wanted: &WantedClasses<'a>,
 ) -> Result<Vec<u8>, ClassesFault<'a>>
     ensures told { IfOk result (λ text. IsTellingOf spec.now name.now wanted.now text.items) }
-    ensures refused { IfErr result (AreNotTold spec.now) }
+    ensures refused { IfErr result (AreNotTold spec.now wanted.now.level) }
 {
     let mut out = Counted::new(Vec::new(alloc));
     match classes(alloc, spec, name, wanted, &Unwatched, &mut out) {

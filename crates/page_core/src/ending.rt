@@ -1,12 +1,13 @@
 //! How a call ends.
 
 ghost use Rattle.std.specs.Prelude.{◌≡◌};
-ghost use Rattle.page_core.specs.Ends.{binding_end, classes_end, end_of, run_end, show_end, spec_end, start_end, text_end};
+ghost use Rattle.page_core.specs.Ends.{binding_end, classes_end, end_of, level_end, level_number, run_end, show_end, spec_end, start_end, text_end};
 
 use class_commands::ClassesFault;
 use session_machine::{RunError, StartError};
 use spec_binding::{BindError, BindErrorKind, SpecFault};
 use spec_commands::ShowFault;
+use spec_levels::{LevelFault, LevelFaultKind};
 use spec_reader::{SpecError, SpecErrorKind};
 
 /// There is an answer.
@@ -29,6 +30,9 @@ pub const NO_ROOM: u64 = 7;
 pub const NO_NAME: u64 = 8;
 /// The orders of the spec lead to more different states than there is room for. The place is how many were noted.
 pub const TOO_MANY: u64 = 9;
+/// What the spec says of levels is wrong. The kind is 1 for a level that there is not, 2 for a second level, 3 for REPEATABLE READ where levels are asked
+/// for, which is not modelled; and the place the number of the line, from 1.
+pub const NO_LEVEL: u64 = 10;
 
 /// How a call ended.
 #[derive(Clone, Copy)]
@@ -126,12 +130,34 @@ fn start_end(error: StartError) -> End
     }
 }
 
+/// The end of a call over a spec that says something wrong of levels: the kind is its number, from 1, and the place its line.
+fn level_end(fault: LevelFault) -> End
+    ensures { result ≡ level_end fault.line fault.kind }
+{
+    End {
+        fault: NO_LEVEL,
+        kind: level_number(fault.kind),
+        place: fault.line as u64,
+    }
+}
+
+fn level_number(kind: LevelFaultKind) -> u64
+    ensures { result ≡ level_number kind }
+{
+    match kind {
+        LevelFaultKind::NoSuchLevel => 1,
+        LevelFaultKind::SecondLevel => 2,
+        LevelFaultKind::NotModelled => 3,
+    }
+}
+
 /// The end of a call that shows the order of a rank. A write to memory fails where that runs out.
 pub(crate) fn show_end(fault: ShowFault) -> End
     ensures { result ≡ show_end fault }
 {
     match fault {
         ShowFault::Spec(fault) => spec_end(fault),
+        ShowFault::Level(fault) => level_end(fault),
         ShowFault::NoRank(_) | ShowFault::OutOfRange => end_of(NO_RANK),
         ShowFault::Run(error) => run_end(error),
         ShowFault::NoMemory | ShowFault::Write(_) => end_of(NO_MEMORY),
@@ -144,6 +170,7 @@ pub(crate) fn classes_end(fault: ClassesFault<'_>) -> End
 {
     match fault {
         ClassesFault::Spec(fault) => spec_end(fault),
+        ClassesFault::Level(fault) => level_end(fault),
         ClassesFault::Run(error) => run_end(error),
         ClassesFault::TooMany(noted) => End {
             fault: TOO_MANY,

@@ -1,6 +1,6 @@
 //! One order, and what happens in it.
 
-ghost use Rattle.std.specs.Prelude.{IfErr, IfOk};
+ghost use Rattle.std.specs.Prelude.{IfErr, IfOk, None};
 ghost use Rattle.spec_commands.specs.Showing.{IsShowingOf};
 ghost use Rattle.spec_commands.specs.declared.showing.ShowForm.TheVariants.{Json};
 ghost use Rattle.spec_commands.specs.declared.showing.WantedOrder.TheVariants.{Rank};
@@ -35,7 +35,7 @@ pub extern "C" fn page_show(
 }
 
 fn shown(alloc: Global, spec: &[u8], name: &str, rank: u64) -> Result<Vec<u8>, ShowFault>
-    ensures shown { IfOk result (λ text. IsShowingOf spec.now name.now (Rank rank) Json text.items) }
+    ensures shown { IfOk result (λ text. IsShowingOf spec.now name.now (Rank rank) Json None text.items) }
     ensures refused { IfErr result (IsNotShown spec.now rank) }
 {
     let mut out = Counted::new(Vec::new(alloc));
@@ -45,6 +45,7 @@ fn shown(alloc: Global, spec: &[u8], name: &str, rank: u64) -> Result<Vec<u8>, S
         name,
         WantedOrder::Rank(rank),
         ShowForm::Json,
+        None,
         &mut out,
     ) {
         Ok(()) => Ok(out.into_inner()),

@@ -5,7 +5,7 @@ pub(crate) const FRONT: &[u8] = br#"<!doctype html>
 <html lang="en">
 <head>
 <meta charset="utf-8">
-<meta http-equiv="Content-Security-Policy" content="default-src 'none'; style-src 'sha256-ZyH/uHs5uTj3x9FWRhmesaNOWz0Pzh6aoNldvEN8Uu4='; script-src 'sha256-GFTkVH7SNxIYyKr2Sx6VI2CnB4hD1b5hZiH8t/veTfA='; base-uri 'none'; form-action 'none'">
+<meta http-equiv="Content-Security-Policy" content="default-src 'none'; style-src 'sha256-ZyH/uHs5uTj3x9FWRhmesaNOWz0Pzh6aoNldvEN8Uu4='; script-src 'sha256-wEtZnDn22cKD/pj8RlSqr4/LiOLu97we28eUpblyf3c='; base-uri 'none'; form-action 'none'">
 <meta name="viewport" content="width=device-width, initial-scale=1">
 <title>isofarm classes</title>
 <style>"#;
@@ -506,14 +506,22 @@ function onClassKey(event) {
 
 // Each expectation, in how many orders it holds, and the class of the first order in which it fails; and levels.
 function drawExpected() {
-  const lines = data.level_lines;
-  $('expected').hidden = !data.expectations.length && !lines.length;
+  const asked = data.levels, levels = levelText(asked, asked ? asked.other_lines : data.level_lines);
+  $('expected').hidden = !data.expectations.length && !levels;
   $('expected').replaceChildren(...data.expectations.map(one => {
     const at = one.first === null ? -1 : data.classes.findIndex(of => of.first_rank === one.first);
     return h('p', null, one.first === null ? pill('good', 'holds') : pill('fail', 'failed'), ' ', code(`${one.select} = ${one.values.join(', ')}`),
       ` holds in ${number(one.holds_in)} of ${plural(data.asked, 'order')}`,
       at < 0 ? '' : [`; first fails at rank ${one.first}, in `, h('button', { type: 'button', onclick: () => pick(at, true) }, `${classWord()} ${at + 1}`)]);
-  }), lines.length ? h('p', { class: 'muted' }, `Isolation levels have no effect (line${lines[1] ? 's' : ''} ${lines.join(', ')}).`) : '');
+  }), levels ? h('p', { class: 'muted' }, levels) : '');
+}
+
+// Under which level all stands, or that levels have no effect, with the lines of the file.
+function levelText(asked, lines) {
+  const told = lines[0] ? ` (line${lines[1] ? 's' : ''} ${lines.join(', ')})` : '', names = ['READ COMMITTED', 'SERIALIZABLE'];
+  if (!asked) return told && `Isolation levels have no effect${told}.`;
+  if (asked.default === 'serializable') names.reverse();
+  return `Isolation level: ${names[0]}${told && `; ${names[1]}${told}`}.`;
 }
 
 /* the moments of an order */

@@ -112,10 +112,10 @@ IsDone files contents old new (Rank path names) result =
 IsDone files contents old new (Order path rank) result =
     IsUnread (files path.now) path.now old new result
     ⊎ IsCalled (files path.now) (λ bytes. IsOrdered contents old new bytes rank) (λ bytes error told. told ≡ order_told path error) result
-IsDone files contents old new (Show path order json) result =
+IsDone files contents old new (Show path order json level) result =
     IsUnread (files path.now) path.now old new result
     ⊎ ((wanted : WantedOrder) × IsSame order wanted
-    × IsCalled (files path.now) (λ bytes. IsShowRun contents old new bytes path.now wanted (form_by json))
+    × IsCalled (files path.now) (λ bytes. IsShowRun contents old new bytes path.now wanted (form_by json) level)
     (λ bytes error told. show_told path (names_in order) error ≡ Some told) result)
 IsDone files contents old new (Classes path wanted progress) result =
     IsUnread (files path.now) path.now old new result
@@ -139,7 +139,7 @@ IsDone files contents old new (Audit path) result =
     IsFound (IsAuditRun (files path.now) contents old new) (λ error told. told ≡ audit_told path error) result
 IsDone files contents old new (Judge path accepted show) result =
     IsFound (IsJudgeRun files path.now (map (λ p. p.now) accepted.items) show contents old new) (λ error told. judge_told path accepted.items error ≡ Some told) result
-IsDone files contents old new (Test paths updates junit workers) result = IsTestRun files (map (λ p. p.now) paths) updates (is_some junit) result
+IsDone files contents old new (Test paths updates junit workers level) result = IsTestRun files (map (λ p. p.now) paths) level updates (is_some junit) result
 
 -- a flush that does not fail: the bytes that are known to be written stay so, and no call has failed; what a device has got of them is not known
 abbrev pub IsFlushed : {W : Type 0} → (W → Option (List ℕ)) → Counted W → Counted W → Type 0
@@ -164,7 +164,7 @@ tells_progress (Check path) = false
 tells_progress (Count path) = false
 tells_progress (Rank path names) = false
 tells_progress (Order path rank) = false
-tells_progress (Show path order json) = false
+tells_progress (Show path order json level) = false
 tells_progress (Classes path wanted progress) = progress
 tells_progress (Outcomes paths wanted) = false
 tells_progress (Run path ranks every workers progress) = progress
@@ -174,7 +174,7 @@ tells_progress (Holds path spec first end) = false
 tells_progress (Report path) = false
 tells_progress (Audit path) = false
 tells_progress (Judge path accepted show) = false
-tells_progress (Test paths updates junit workers) = false
+tells_progress (Test paths updates junit workers level) = false
 
 -- With which status the program ends. Where nothing is to be told on the way only a fault is told; where there is no memory for its line, that is
 -- told in its place

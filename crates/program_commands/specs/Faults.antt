@@ -28,6 +28,8 @@ use Rattle.spec_commands.specs.declared.ordering.RankFault.{RankFault}
 use Rattle.spec_commands.specs.declared.ordering.RankFault.TheVariants as rank_fault
 use Rattle.spec_commands.specs.declared.ordering.OrderFault.{OrderFault}
 use Rattle.spec_commands.specs.declared.ordering.OrderFault.TheVariants as order_fault
+use Rattle.spec_levels.specs.declared.asking.LevelFaultKind.{LevelFaultKind}
+use Rattle.spec_levels.specs.declared.asking.LevelFaultKind.TheVariants as level_fault
 use Rattle.spec_commands.specs.declared.showing.ShowFault.{ShowFault}
 use Rattle.spec_commands.specs.declared.showing.ShowFault.TheVariants as show_fault
 use Rattle.spec_commands.specs.Ordering.{IsNamePlace}
@@ -62,7 +64,7 @@ use Rattle.range_commands.specs.declared.ranges.RangeFault.{RangeFault}
 use Rattle.range_commands.specs.declared.ranges.RangeFault.TheVariants as range_fault
 use Rattle.spec_findings.specs.Told.{AreTold}
 use Rattle.fault_texts.specs.declared.fault.ProgramFault.{ProgramFault}
-use Rattle.fault_texts.specs.declared.fault.ProgramFault.TheVariants.{Spec, Sql, Bind, Start, RankOutOfRange, Shard, Book, BookTooLarge, OtherSpec}
+use Rattle.fault_texts.specs.declared.fault.ProgramFault.TheVariants.{Spec, Sql, Bind, NoSuchLevel, SecondLevel, NotModelled, Start, RankOutOfRange, Shard, Book, BookTooLarge, OtherSpec}
 use Rattle.fault_texts.specs.declared.fault.ProgramFault.TheVariants.{TooManyRanks, Explained, Missing, Clash, NoMemory, Read, Write}
 use Rattle.fault_texts.specs.declared.fault.ProgramFault.TheVariants.{NoStep, Twice, OutOfTurn, LeftOut, NoLine, NoSession, NoSerialOrders, TooManyStates, LookSql, LookBind, NotOneSelect, NoValue}
 
@@ -123,9 +125,16 @@ order_told path order_fault.OutOfRange = RankOutOfRange path
 order_told path order_fault.NoMemory = NoMemory
 order_told path (order_fault.Write fault) = Write
 
+-- of the line on which the file says something wrong of levels
+abbrev pub level_told : Path → ℕ → LevelFaultKind → ProgramFault
+level_told path line level_fault.NoSuchLevel = NoSuchLevel path line
+level_told path line level_fault.SecondLevel = SecondLevel path line
+level_told path line level_fault.NotModelled = NotModelled path line
+
 -- of the name at a place that is told, where the order has no rank
 abbrev pub show_told : Path → List Path → ShowFault → Option ProgramFault
 show_told path names (show_fault.Spec fault) = Some (spec_told path fault)
+show_told path names (show_fault.Level fault) = Some (level_told path fault.line fault.kind)
 show_told path names (show_fault.NoRank fault) = rank_told path names fault
 show_told path names show_fault.OutOfRange = Some (RankOutOfRange path)
 show_told path names (show_fault.Run error) = Some (run_told path error)
@@ -153,6 +162,7 @@ asked_told path asked_fault.NoMemory = NoMemory
 
 abbrev pub classing_told : Path → ClassesFault → ProgramFault
 classing_told path (classes_fault.Spec fault) = spec_told path fault
+classing_told path (classes_fault.Level fault) = level_told path fault.line fault.kind
 classing_told path (classes_fault.Asked fault) = asked_told path fault
 classing_told path (classes_fault.Run error) = run_told path error
 classing_told path (classes_fault.TooMany noted) = TooManyStates path noted

@@ -1,5 +1,6 @@
 -- What workers find of specs that they test side by side.
-use Rattle.std.specs.Prelude.{◌≡◌, ℕ, Bool, List, [], map, get_or}
+use Rattle.std.specs.Prelude.{◌≡◌, ℕ, Bool, List, [], map, get_or, Option}
+use Rattle.bound_statements.specs.declared.statement.Level.{Level}
 use Rattle.book_commands.specs.Joining.{Files}
 use Rattle.book_commands.specs.declared.finding.Finding.{Finding}
 use Rattle.program_commands.specs.declared.one_spec.Found.{Found}
@@ -10,5 +11,5 @@ abbrev pub findings_in : List Found → List Finding
 findings_in found = map (λ f. f.finding) found
 
 -- it is found of the spec at its place
-abbrev pub IsPlaced : Files → Bool → List (List ℕ) → Placed → Type 0
-IsPlaced files updates specs placed = IsFoundOf files updates (get_or specs placed.place []) placed.found.finding
+abbrev pub IsPlaced : Files → Option Level → Bool → List (List ℕ) → Placed → Type 0
+IsPlaced files level updates specs placed = IsFoundOf files level updates (get_or specs placed.place []) placed.found.finding

@@ -37,6 +37,7 @@ use book_commands::{
     Finding, MissingRanks, Opener, audit_file, hold_file, join_files, judge_files, missing_files,
     report_file,
 };
+use bound_statements::Level;
 use clap::Error;
 use clap::error::ErrorKind;
 use class_commands::{Telling, book_classes, classes_told};
@@ -127,9 +128,12 @@ where
         Asked::Count { path } => count_of_file(alloc, path, opener, out),
         Asked::Rank { path, names } => rank_of_file(alloc, path, names.as_slice(), opener, out),
         Asked::Order { path, rank } => order_of_file(alloc, path, *rank, opener, out),
-        Asked::Show { path, order, json } => {
-            show_of_file(alloc, path, order, *json, opener, out)
-        }
+        Asked::Show {
+            path,
+            order,
+            json,
+            level,
+        } => show_of_file(alloc, path, order, *json, *level, opener, out),
         Asked::Classes {
             path,
             wanted,
@@ -172,11 +176,13 @@ where
             updates,
             junit,
             workers,
+            level,
         } => {
             let told = TestWords {
                 paths: paths.as_slice(),
                 updates: *updates,
                 junit: *junit,
+                level: *level,
             };
             test_of_files(rt, alloc, &told, workers, opener, out)
         }
@@ -292,11 +298,12 @@ fn show_of_file<'a, O: Opener, W: Write>(
     path: &'a str,
     order: &Wanted<'a>,
     json: bool,
+    level: Option<Level>,
     opener: &O,
     out: &mut Counted<W>,
 ) -> Result<Finding, ProgramFault<'a>>
     requires { failures_of out.old ≡ 0 }
-    ensures done { IsUnread (O.bytes opener.now path.now) path.now out.old out.new result ⊎ ((wanted : WantedOrder) × IsSame order.now wanted × IsCalled (O.bytes opener.now path.now) (λ bytes. IsShowRun W.contents out.old out.new bytes path.now wanted (form_by json)) (λ bytes error told. show_told path.entry (names_in order.now) error ≡ Some told) result) }
+    ensures done { IsUnread (O.bytes opener.now path.now) path.now out.old out.new result ⊎ ((wanted : WantedOrder) × IsSame order.now wanted × IsCalled (O.bytes opener.now path.now) (λ bytes. IsShowRun W.contents out.old out.new bytes path.now wanted (form_by json) level) (λ bytes error told. show_told path.entry (names_in order.now) error ≡ Some told) result) }
     ensures failures { OnOk result (failures_of out.new ≡ 0) }
 {
     let bytes = match read_spec_file(alloc, opener, path) {
@@ -304,7 +311,15 @@ fn show_of_file<'a, O: Opener, W: Write>(
         Err(fault) => return Err(fault),
     };
     let wanted = wanted_of(order);
-    match show(alloc, bytes.as_slice(), path, wanted, form_of(json), out) {
+    match show(
+        alloc,
+        bytes.as_slice(),
+        path,
+        wanted,
+        form_of(json),
+        level,
+        out,
+    ) {
         Ok(()) => Ok(Finding::Good),
         Err(fault) => Err(show_fault(path, names_of(order), fault)),
     }

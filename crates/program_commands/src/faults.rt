@@ -9,7 +9,7 @@ ghost use Rattle.class_commands.specs.Booking.{IsPlacedIn};
 ghost use Rattle.spec_findings.specs.Told.{AreTold};
 ghost use Rattle.fault_texts.specs.declared.fault.ProgramFault.TheVariants.{NoMemory};
 ghost use Rattle.program_commands.specs.Faults.{IsExplained, IsShowPlace, one_told, count_told, rank_told, order_told, show_told, asked_told, classing_told, look_told, outcomes_told, range_told, join_told, missing_told, report_told, audit_told, hold_told, judge_told, no_report_told};
-ghost use Rattle.program_commands.specs.Faults.{values_told, file_told, book_told, write_told, spec_told, text_told, binding_told, run_told, start_told};
+ghost use Rattle.program_commands.specs.Faults.{values_told, file_told, level_told, book_told, write_told, spec_told, text_told, binding_told, run_told, start_told};
 
 use asked_classes::AskedFault;
 use book_commands::{
@@ -26,6 +26,7 @@ use session_machine::{RunError, StartError};
 use spec_binding::{BindError, BindErrorKind, SpecFault};
 use spec_commands::{CountFault, OneFault, OrderFault, RankFault, ShowFault};
 use spec_findings::explained_faults;
+use spec_levels::{LevelFault, LevelFaultKind};
 use spec_reader::{SpecError, SpecErrorKind};
 use std::alloc::{AllocError, Global};
 
@@ -134,12 +135,24 @@ pub(crate) fn order_fault(path: &str, fault: OrderFault) -> ProgramFault<'_>
     }
 }
 
+fn level_fault(path: &str, fault: LevelFault) -> ProgramFault<'_>
+    ensures { result ≡ level_told path.entry fault.line fault.kind }
+{
+    let line = fault.line;
+    match fault.kind {
+        LevelFaultKind::NoSuchLevel => ProgramFault::NoSuchLevel { path, line },
+        LevelFaultKind::SecondLevel => ProgramFault::SecondLevel { path, line },
+        LevelFaultKind::NotModelled => ProgramFault::NotModelled { path, line },
+    }
+}
+
 pub(crate) fn show_fault<'a>(path: &'a str, names: &[&'a str], fault: ShowFault) -> ProgramFault<'a>
     requires { IsShowPlace (length names.now) fault }
     ensures { show_told path.entry names.now fault ≡ Some result }
 {
     match fault {
         ShowFault::Spec(fault) => spec_fault(path, fault),
+        ShowFault::Level(fault) => level_fault(path, fault),
         ShowFault::NoRank(fault) => rank_fault(path, names, fault),
         ShowFault::OutOfRange => ProgramFault::RankOutOfRange { path },
         ShowFault::Run(error) => run_fault(path, error),
@@ -184,6 +197,7 @@ pub(crate) fn classes_fault<'a>(path: &'a str, fault: ClassesFault<'a>) -> Progr
 {
     match fault {
         ClassesFault::Spec(fault) => spec_fault(path, fault),
+        ClassesFault::Level(fault) => level_fault(path, fault),
         ClassesFault::Asked(fault) => asked_fault(path, fault),
         ClassesFault::Run(error) => run_fault(path, error),
         ClassesFault::TooMany(noted) => ProgramFault::TooManyStates { path, noted },

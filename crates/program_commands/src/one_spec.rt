@@ -1,6 +1,7 @@
 //! What is found of one spec beside the accepted record of its classes.
 
-ghost use Rattle.std.specs.Prelude.{◌≡◌, ◌⊎◌, ℕ, List, false, true};
+ghost use Rattle.std.specs.Prelude.{◌≡◌, ◌⊎◌, ℕ, List, Option, false, true};
+ghost use Rattle.bound_statements.specs.declared.statement.Level.{Level};
 ghost use Rattle.book_commands.specs.Joining.{Files};
 ghost use Rattle.book_commands.specs.declared.finding.Finding.TheVariants.{Bad, NoMemory};
 ghost use Rattle.test_commands.specs.Testing.{IsTested};
@@ -10,6 +11,7 @@ use crate::faults::classes_fault;
 use crate::files::read_spec_file;
 use accepted_classes::{Changes, accepted_path, changes_text, compare_texts, file_name};
 use book_commands::Finding;
+use bound_statements::Level;
 use fault_texts::ProgramFault;
 use std::alloc::{AllocError, Global};
 use test_commands::{Folder, TestFault, Tested, Verdict, test_spec};
@@ -48,9 +50,15 @@ impl Told {
     }
 }
 
-/// What is found of the spec at a path.
-pub(crate) fn test_of_file<F: Folder>(alloc: Global, path: &str, updates: bool, folder: &F) -> Found
-    ensures { IsFoundOf (F.bytes folder.now) updates path.now result.finding }
+/// What is found of the spec at a path at a level, or at the one for which it asks.
+pub(crate) fn test_of_file<F: Folder>(
+    alloc: Global,
+    path: &str,
+    level: Option<Level>,
+    updates: bool,
+    folder: &F,
+) -> Found
+    ensures { IsFoundOf (F.bytes folder.now) level updates path.now result.finding }
 {
     let bytes = match read_spec_file(alloc, folder, path) {
         Ok(bytes) => bytes,
@@ -61,7 +69,7 @@ pub(crate) fn test_of_file<F: Folder>(alloc: Global, path: &str, updates: bool, 
     };
     let accepted = accepted.as_str();
     let bytes = bytes.as_slice();
-    match test_spec(alloc, folder, bytes, file_name(path), accepted) {
+    match test_spec(alloc, folder, bytes, file_name(path), accepted, level) {
         Ok(tested) if updates => updated(alloc, accepted, &tested, folder),
         Ok(tested) => compared(alloc, bytes, &tested),
         Err(fault) => refused(alloc, path, &fault_of(path, accepted, fault)),
@@ -94,7 +102,7 @@ fn fault_of<'p>(path: &'p str, accepted: &'p str, fault: TestFault) -> ProgramFa
 
 /// Whether the accepted record is that of the classes, or how it differs.
 fn compared(alloc: Global, bytes: &[u8], tested: &Tested) -> Found
-    ensures { (files : Files) (path name accepted : List ℕ) → IsSpecAt files path bytes.now name accepted → IsTested (files accepted) bytes.now name tested.now → IsFoundOf files false path result.finding }
+    ensures { (files : Files) (level : Option Level) (path name accepted : List ℕ) → IsSpecAt files path bytes.now name accepted → IsTested (files accepted) level bytes.now name tested.now → IsFoundOf files level false path result.finding }
 {
     match &tested.verdict {
         Verdict::Same => found_as(Finding::Good, Told::AsAccepted),
@@ -126,7 +134,7 @@ fn changes_of(alloc: Global, accepted: &[u8], text: &[u8]) -> Result<String, All
 
 /// Accepts the classes as they are, and tells whether their text was written.
 fn updated<F: Folder>(alloc: Global, accepted: &str, tested: &Tested, folder: &F) -> Found
-    ensures { (files : Files) (path bytes name : List ℕ) → IsSpecAt files path bytes name accepted.now → IsTested (files accepted.now) bytes name tested.now → IsFoundOf files true path result.finding }
+    ensures { (files : Files) (level : Option Level) (path bytes name : List ℕ) → IsSpecAt files path bytes name accepted.now → IsTested (files accepted.now) level bytes name tested.now → IsFoundOf files level true path result.finding }
 {
     if let Verdict::Same = &tested.verdict {
         return found_as(Finding::Good, Told::AsAccepted);

@@ -1,6 +1,7 @@
 //! Specs beside the accepted records of their classes.
 
-ghost use Rattle.std.specs.Prelude.{◌≡◌, ℕ, Bool, true, false, Err, List, IfOk, IfErr, OnOk, is_some, length, map, string_bytes, vec_len};
+ghost use Rattle.std.specs.Prelude.{◌≡◌, ℕ, Bool, true, false, Err, List, Option, IfOk, IfErr, OnOk, is_some, length, map, string_bytes, vec_len};
+ghost use Rattle.bound_statements.specs.declared.statement.Level.{Level};
 ghost use Rattle.transcripts.specs.Counted.{failures_of};
 ghost use Rattle.book_commands.specs.Joining.{Files};
 ghost use Rattle.test_commands.specs.Testing.{AreNoSpecs};
@@ -10,6 +11,7 @@ ghost use Rattle.program_commands.specs.SideBySide.{findings_in};
 use crate::one_spec::{Found, test_of_file};
 use crate::side_by_side::test_side_by_side;
 use book_commands::Finding;
+use bound_statements::Level;
 use fault_texts::ProgramFault;
 use shard_board::Workers;
 use std::alloc::{AllocError, Global};
@@ -30,6 +32,8 @@ pub(crate) struct TestWords<'w, 'a> {
     pub(crate) updates: bool,
     /// Where a report in the form of JUnit is written.
     pub(crate) junit: Option<&'a str>,
+    /// The level at which they are tested; where there is none, each is tested at the one for which its file asks.
+    pub(crate) level: Option<Level>,
 }
 
 /// What is found of specs: the worst of what is found of each; and of their report, whether it could be made and written.
@@ -51,7 +55,7 @@ pub(crate) fn test_of_files<'a, R: Threads + Sync, F: Folder + Sync, W: Write>(
 where
     F::Reader: Send,
     requires { failures_of out.old ≡ 0 }
-    ensures done { IsTestRun (F.bytes folder.now) (map (λ p. p.now) words.now.paths.now) words.now.updates (is_some words.now.junit) result }
+    ensures done { IsTestRun (F.bytes folder.now) (map (λ p. p.now) words.now.paths.now) words.now.level words.now.updates (is_some words.now.junit) result }
     ensures failures { OnOk result (failures_of out.new ≡ 0) }
 {
     let specs = match specs_in(alloc, folder, words.paths) {
@@ -63,6 +67,7 @@ where
         rt,
         alloc,
         &specs,
+        words.level,
         words.updates,
         workers,
         folder,
@@ -86,7 +91,7 @@ where
 
 /// Why there are no specs to test.
 fn specs_fault(fault: SpecsFault<'_>) -> ProgramFault<'_>
-    ensures { (files : Files) (paths : List (List ℕ)) (updates reports : Bool) → AreNoSpecs files paths fault.entry → IsTestRun files paths updates reports (Err result) }
+    ensures { (files : Files) (paths : List (List ℕ)) (level : Option Level) (updates reports : Bool) → AreNoSpecs files paths fault.entry → IsTestRun files paths level updates reports (Err result) }
 {
     match fault {
         SpecsFault::NoneIn(path) => ProgramFault::NoSpecs { path },
@@ -100,6 +105,7 @@ fn test_all<'a, R: Threads + Sync, F: Folder + Sync, W: Write>(
     rt: &R,
     alloc: Global,
     specs: &[String],
+    level: Option<Level>,
     updates: bool,
     workers: &Workers,
     folder: &F,
@@ -109,15 +115,15 @@ fn test_all<'a, R: Threads + Sync, F: Folder + Sync, W: Write>(
 where
     F::Reader: Send,
     requires { failures_of out.old ≡ 0 }
-    ensures specs { IfOk result (λ ended. IsWorstOf (F.bytes folder.now) updates (map string_bytes specs.now) ended.specs) }
+    ensures specs { IfOk result (λ ended. IsWorstOf (F.bytes folder.now) level updates (map string_bytes specs.now) ended.specs) }
     ensures report { IfOk result (λ ended. IsReportEnd ended.report) }
     ensures failures { OnOk result (failures_of out.new ≡ 0) }
-    ensures refused { IfErr result (λ fault. (files : Files) (paths : List (List ℕ)) (updates reports : Bool) → IsTestRun files paths updates reports (Err fault)) }
+    ensures refused { IfErr result (λ fault. (files : Files) (paths : List (List ℕ)) (level : Option Level) (updates reports : Bool) → IsTestRun files paths level updates reports (Err fault)) }
 {
     if updates {
-        return update_each(alloc, specs, folder, cases, out);
+        return update_each(alloc, specs, level, folder, cases, out);
     }
-    test_each(rt, alloc, specs, workers, folder, cases, out)
+    test_each(rt, alloc, specs, level, workers, folder, cases, out)
 }
 
 /// Tests specs side by side, some at a time, and tells of them in their order.
@@ -125,6 +131,7 @@ fn test_each<'a, R: Threads + Sync, F: Folder + Sync, W: Write>(
     rt: &R,
     alloc: Global,
     specs: &[String],
+    level: Option<Level>,
     workers: &Workers,
     folder: &F,
     cases: &mut Vec<Case>,
@@ -133,10 +140,10 @@ fn test_each<'a, R: Threads + Sync, F: Folder + Sync, W: Write>(
 where
     F::Reader: Send,
     requires { failures_of out.old ≡ 0 }
-    ensures specs { IfOk result (λ ended. IsWorstOf (F.bytes folder.now) false (map string_bytes specs.now) ended.specs) }
+    ensures specs { IfOk result (λ ended. IsWorstOf (F.bytes folder.now) level false (map string_bytes specs.now) ended.specs) }
     ensures report { IfOk result (λ ended. IsReportEnd ended.report) }
     ensures failures { OnOk result (failures_of out.new ≡ 0) }
-    ensures refused { IfErr result (λ fault. (files : Files) (paths : List (List ℕ)) (updates reports : Bool) → IsTestRun files paths updates reports (Err fault)) }
+    ensures refused { IfErr result (λ fault. (files : Files) (paths : List (List ℕ)) (level : Option Level) (updates reports : Bool) → IsTestRun files paths level updates reports (Err fault)) }
 {
     let mut ended = Ended {
         specs: Finding::Good,
@@ -146,7 +153,7 @@ where
     while told < specs.len() {
         let end = told.saturating_add(AHEAD).min(specs.len());
         let some = &specs[told..end];
-        let Ok(found) = test_side_by_side(rt, alloc, some, workers, folder) else {
+        let Ok(found) = test_side_by_side(rt, alloc, some, level, workers, folder) else {
             return Err(ProgramFault::NoMemory);
         };
         ended = match tell_each(alloc, some, found.as_slice(), ended, cases, out) {
@@ -163,15 +170,16 @@ where
 fn update_each<'a, F: Folder, W: Write>(
     alloc: Global,
     specs: &[String],
+    level: Option<Level>,
     folder: &F,
     cases: &mut Vec<Case>,
     out: &mut Counted<W>,
 ) -> Result<Ended, ProgramFault<'a>>
     requires { failures_of out.old ≡ 0 }
-    ensures specs { IfOk result (λ ended. IsWorstOf (F.bytes folder.now) true (map string_bytes specs.now) ended.specs) }
+    ensures specs { IfOk result (λ ended. IsWorstOf (F.bytes folder.now) level true (map string_bytes specs.now) ended.specs) }
     ensures report { IfOk result (λ ended. IsReportEnd ended.report) }
     ensures failures { OnOk result (failures_of out.new ≡ 0) }
-    ensures refused { IfErr result (λ fault. (files : Files) (paths : List (List ℕ)) (updates reports : Bool) → IsTestRun files paths updates reports (Err fault)) }
+    ensures refused { IfErr result (λ fault. (files : Files) (paths : List (List ℕ)) (level : Option Level) (updates reports : Bool) → IsTestRun files paths level updates reports (Err fault)) }
 {
     let mut ended = Ended {
         specs: Finding::Good,
@@ -179,7 +187,7 @@ fn update_each<'a, F: Folder, W: Write>(
     };
     for place in 0..specs.len() {
         let path = specs[place].as_str();
-        let found = test_of_file(alloc, path, true, folder);
+        let found = test_of_file(alloc, path, level, true, folder);
         ended = match tell_one(alloc, path, &found, ended, cases, out) {
             Ok(ended) => ended,
             Err(_) => return Err(ProgramFault::Write),

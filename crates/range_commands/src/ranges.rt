@@ -1,6 +1,6 @@
 //! The book of a range of ranks, from the bytes of a spec to the text of the book.
 
-ghost use Rattle.std.specs.Prelude.{◌≡◌, ◌<◌, ◌≤◌, IfErr, IfOk, OnOk, MatchOption, false};
+ghost use Rattle.std.specs.Prelude.{◌≡◌, ◌<◌, ◌≤◌, None, IfErr, IfOk, OnOk, MatchOption, false};
 ghost use Rattle.spec_binding.specs.SpecFiles.{IsNoSpec};
 ghost use Rattle.step_reducer.specs.Walking.{Starts};
 ghost use Rattle.fact_books.specs.Building.{AreFactsOf};
@@ -129,6 +129,7 @@ fn number_of_ranks(alloc: Global, bytes: &[u8]) -> Result<u64, SpecFault>
 }
 
 /// The facts of the ranks from the first up to but not the end: when reducing the least swap where the rank has one, and else the outcome.
+/// Levels are not asked for.
 pub fn book_of_range<R: Threads + Wait + Sync, G: Gate + Sync>(
     rt: &R,
     alloc: Global,
@@ -139,6 +140,7 @@ pub fn book_of_range<R: Threads + Wait + Sync, G: Gate + Sync>(
     workers: &Workers,
     gate: &G,
 ) -> Result<Book, RunError>
+    requires unasked { spec.now.asked ≡ None }
     ensures refused { IfErr result (IsNoRange spec.now.run first end) }
     ensures lawful { OnOk result (IsRangeOf spec.now.run first end) }
     ensures started { OnOk result (Starts spec.now.run) }

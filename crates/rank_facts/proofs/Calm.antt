@@ -88,23 +88,23 @@ worked-on s rows (Faults f) c = tt
 
 perform_by-on : (status : Status) (k : Kind) (s : Session) (rows : Rows') (st : Bound)
     → OnGoes (perform_by status k s rows st) (λ s2 rows2. GoesOn s.transcript s2.transcript)
-perform_by-on Outside Begins s rows st = by-one s.transcript Began refl
-perform_by-on InBlock Begins s rows st = by-two s.transcript (Warned Rattle.events.specs.declared.event.Warning.TheVariants.InBlock) Began refl refl
-perform_by-on Broken Begins s rows st = tt
+perform_by-on Outside (Begins level) s rows st = by-one s.transcript Began refl
+perform_by-on (InBlock of) (Begins level) s rows st = by-two s.transcript (Warned Rattle.events.specs.declared.event.Warning.TheVariants.InBlock) Began refl refl
+perform_by-on Broken (Begins level) s rows st = tt
 perform_by-on Outside Commits s rows st = by-two s.transcript (Warned Rattle.events.specs.declared.event.Warning.TheVariants.NoBlock) Committed refl refl
-perform_by-on InBlock Commits s rows st = by-one s.transcript Committed refl
+perform_by-on (InBlock of) Commits s rows st = by-one s.transcript Committed refl
 perform_by-on Broken Commits s rows st = by-one s.transcript RolledBack refl
 perform_by-on Outside RollsBack s rows st = by-two s.transcript (Warned Rattle.events.specs.declared.event.Warning.TheVariants.NoBlock)
     RolledBack refl refl
-perform_by-on InBlock RollsBack s rows st = by-one s.transcript RolledBack refl
+perform_by-on (InBlock of) RollsBack s rows st = by-one s.transcript RolledBack refl
 perform_by-on Broken RollsBack s rows st = by-one s.transcript RolledBack refl
 perform_by-on Outside Works s rows st = worked-on s rows _ (calm-effect st _)
-perform_by-on InBlock Works s rows st = worked-on s rows _ (calm-effect st _)
+perform_by-on (InBlock of) Works s rows st = worked-on s rows _ (calm-effect st _)
 perform_by-on Broken Works s rows st = tt
 
 finished-on : (status : Status) (s : Session) (rows : Rows') → GoesOn s.transcript (finished_by status s rows).session.transcript
 finished-on Outside s rows = by-one s.transcript Done refl
-finished-on InBlock s rows = by-one s.transcript Done refl
+finished-on (InBlock of) s rows = by-one s.transcript Done refl
 finished-on Broken s rows = by-one s.transcript Done refl
 
 failed-on : (s : Session) (rows : Rows') (f : Fault) → GoesOn s.transcript (failed s rows f).session.transcript

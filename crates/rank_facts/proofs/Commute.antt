@@ -10,8 +10,12 @@ use Rattle.lock_modes.specs.Mode.{compatible, cover}
 use Rattle.lock_queues.specs.declared.wait.Wait.{Wait}
 use Rattle.lock_queues.specs.Locks.{Spot, Look, fits, fits_with, wanted, wanted_by, all_below, waits_now, converts, ahead, is_empty, is_ripe, first_ripe}
 use Rattle.lock_queues.specs.Locks.{next_grant, spots_from}
+use Rattle.bound_statements.specs.Levels.{is_unlocked, asked}
 use Rattle.bound_statements.specs.Plan.{Request, plan, nowait}
-use Rattle.machine_model.specs.Session.{Task, Do, Session, Held, tasks_of, asks, note}
+use Rattle.bound_statements.proofs.LevelLemmas.{asked-locked, asked-unlocked}
+use Rattle.machine_model.proofs.Levels.{plan-in_status}
+use Rattle.machine_model.specs.declared.status.Status.{Status}
+use Rattle.machine_model.specs.Session.{Task, Do, Session, Held, behind, in_status, tasks_of, asks, note}
 use Rattle.machine_model.specs.Go.{Stop, solo}
 use Rattle.machine_model.specs.World.{World, fresh, session_at, look_of, scene_of, placed_back, goes, settle, left_to_do, send}
 use Rattle.bound_specs.specs.Spec.{Step, no_step}
@@ -36,22 +40,35 @@ ask-tasks : (P : Resource → Mode → Type 0) (n : Bool) (qs : List Request) (t
 ask-tasks P n [] ts each h = h
 ask-tasks P n (q ∷ qs) ts each h = (each.0, ask-tasks P n qs ts each.1 h)
 
-pub asks-of : (P : Resource → Mode → Type 0) (ss : List Bound) → Each (λ q. P q.resource q.mode) (plans ss) → EachAsk P (tasks_of ss)
-asks-of P [] each = tt
-asks-of P (s ∷ ss) each = ask-tasks P (nowait s) (plan s) (Do s ∷ tasks_of ss) (Each-left (λ (q : Request). P q.resource q.mode) (plan s) (plans ss) each)
-    (asks-of P ss (Each-right (λ (q : Request). P q.resource q.mode) (plan s) (plans ss) each))
+-- what a statement asks for is of its plan
+each-asked : (Q : Request → Type 0) (x : Status) (st : Bound) → Each Q (plan st) → Each Q (asked (in_status x st))
+each-asked Q x st each = by (is_unlocked (in_status x st)) refl
+  where
+    by : (b : Bool) → is_unlocked (in_status x st) ≡ b → Each Q (asked (in_status x st))
+    by true is = subst (Each Q) (sym (asked-unlocked (in_status x st) is)) tt
+    by false is = subst (Each Q) (sym (asked-locked (in_status x st) is ∙ plan-in_status x st)) each
+
+pub asks-of : (P : Resource → Mode → Type 0) (x : Status) (ss : List Bound) → Each (λ q. P q.resource q.mode) (plans ss) → EachAsk P (tasks_of x ss)
+asks-of P x [] each = tt
+asks-of P x (s ∷ ss) each =
+    let st = in_status x s in
+    ask-tasks P (nowait st) (asked st) (Do st ∷ tasks_of (behind x s) ss)
+    (each-asked (λ (q : Request). P q.resource q.mode) x s (Each-left (λ (q : Request). P q.resource q.mode) (plan s) (plans ss) each))
+    (asks-of P (behind x s) ss (Each-right (λ (q : Request). P q.resource q.mode) (plan s) (plans ss) each))
 
 do-tasks : (P : Bound → Type 0) (n : Bool) (qs : List Request) (ts : List Task) → EachDo P ts → EachDo P (asks n qs ts)
 do-tasks P n [] ts h = h
 do-tasks P n (q ∷ qs) ts h = do-tasks P n qs ts h
 
-pub dos-of : (Q : Request → Type 0) (P : Bound → Type 0) → ((s : Bound) → Each Q (plan s) → P s) → (ss : List Bound) → Each Q (plans ss)
-    → EachDo P (tasks_of ss)
-dos-of Q P f [] each = tt
-dos-of Q P f (s ∷ ss) each = do-tasks P (nowait s) (plan s) (Do s ∷ tasks_of ss) (
-  f s (Each-left Q (plan s) (plans ss) each),
-  dos-of Q P f ss (Each-right Q (plan s) (plans ss) each),
-)
+pub dos-of : (Q : Request → Type 0) (P : Bound → Type 0) → ((s : Bound) → Each Q (plan s) → P s) → (x : Status) (ss : List Bound) → Each Q (plans ss)
+    → EachDo P (tasks_of x ss)
+dos-of Q P f x [] each = tt
+dos-of Q P f x (s ∷ ss) each =
+    let st = in_status x s in
+    do-tasks P (nowait st) (asked st) (Do st ∷ tasks_of (behind x s) ss) (
+      f st (subst (Each Q) (sym (plan-in_status x s)) (Each-left Q (plan s) (plans ss) each)),
+      dos-of Q P f (behind x s) ss (Each-right Q (plan s) (plans ss) each),
+    )
 
 -- ---- what is ripe depends on the look-ups where somebody waits
 
@@ -151,11 +168,11 @@ still-settled w i s qs x free none =
 -- nothing is held, after the step, where somebody waits
 none-after : (s : Session) (rows : Rows') (ss : List Bound) (vs : List Wait) → Each (λ v. get s.held v.resource ≡ None) vs
     → Each (λ v. Each (λ q. same_resource v.resource q.resource ≡ false) (plans ss)) vs
-    → Each (λ v. get (solo s rows (tasks_of ss)).session.held v.resource ≡ None) vs
+    → Each (λ v. get (solo s rows (tasks_of s.status ss)).session.held v.resource ≡ None) vs
 none-after s rows ss [] p q = tt
 none-after s rows ss (v ∷ vs) p q = (
-  solo-held (λ h. get h v.resource ≡ None) (get-empty resource_order Mode v.resource) s rows (tasks_of ss)
-      (asks-of (Keeps (λ h. get h v.resource ≡ None)) ss
+  solo-held (λ h. get h v.resource ≡ None) (get-empty resource_order Mode v.resource) s rows (tasks_of s.status ss)
+      (asks-of (Keeps (λ h. get h v.resource ≡ None)) s.status ss
       (Each-map (λ q. same_resource v.resource q.resource ≡ false) (λ q. Keeps (λ h. get h v.resource ≡ None) q.resource q.mode)
       (λ q off. keeps-none v.resource q.resource q.mode off) (plans ss) q.0)) p.0,
   none-after s rows ss vs p.1 q.1,
@@ -163,11 +180,11 @@ none-after s rows ss (v ∷ vs) p q = (
 
 -- a free session goes alone, and nobody wakes
 pub goes-alone : (w : World) (i : ℕ) (s : Session) (ss : List Bound) → Free w i s.held (plans ss)
-    → settle (goes w i s (tasks_of ss)) ≡ after w i (solo s w.rows (tasks_of ss))
+    → settle (goes w i s (tasks_of s.status ss)) ≡ after w i (solo s w.rows (tasks_of s.status ss))
 goes-alone w i s ss free =
-    let x : Stop = solo s w.rows (tasks_of ss) in
-    let gone : goes w i s (tasks_of ss) ≡ after w i x =
-    ap (placed_back w i) (go-solo (scene_of w) i s w.rows (tasks_of ss) (asks-of (IsFree (scene_of w) i) ss free.asks) free.fits) in
+    let x : Stop = solo s w.rows (tasks_of s.status ss) in
+    let gone : goes w i s (tasks_of s.status ss) ≡ after w i x =
+    ap (placed_back w i) (go-solo (scene_of w) i s w.rows (tasks_of s.status ss) (asks-of (IsFree (scene_of w) i) s.status ss free.asks) free.fits) in
     ap settle gone ∙ settled-at (left_to_do (after w i x)) (after w i x)
     (still-settled w i s (plans ss) x free (none-after s w.rows ss w.waits free.none_held free.none_asked))
 
@@ -217,10 +234,10 @@ fits_with-held m (Some n) f = f n refl
 
 -- the mode that is claimed beside the one's step fits what the one holds after it
 fits-after-step : (s : Session) (rows : Rows') (ss : List Bound) (theirs : Claims) → Friends (claims_of s.held (plans ss)) theirs → (r : Resource) (m : Mode)
-    → theirs r m ≡ true → fits_with m (get (solo s rows (tasks_of ss)).session.held r) ≡ true
+    → theirs r m ≡ true → fits_with m (get (solo s rows (tasks_of s.status ss)).session.held r) ≡ true
 fits-after-step s rows ss theirs friends r m claim =
-    solo-held (λ h. fits_with m (get h r) ≡ true) (ap (fits_with m) (get-empty resource_order Mode r)) s rows (tasks_of ss)
-    (asks-of (Keeps (λ h. fits_with m (get h r) ≡ true)) ss
+    solo-held (λ h. fits_with m (get h r) ≡ true) (ap (fits_with m) (get-empty resource_order Mode r)) s rows (tasks_of s.status ss)
+    (asks-of (Keeps (λ h. fits_with m (get h r) ≡ true)) s.status ss
     (Each-map (λ q. claims_of s.held (plans ss) q.resource q.mode ≡ true) (λ q. Keeps (λ h. fits_with m (get h r) ≡ true) q.resource q.mode)
     (λ q c. keeps-fit r q.resource m q.mode (λ e. compatible-comm m q.mode ∙ friends.fit q.resource q.mode m c (subst (λ x. theirs x m ≡ true) e claim)))
     (plans ss) (claims-asked s.held (plans ss))))
@@ -246,9 +263,9 @@ fits-after w i j x r m lt f new =
 
 -- after the one's step the other is as free as before
 still-free : (w : World) (i j : ℕ) (s t : Session) (ss : List Bound) (ps : List Request) → Apart w i j s t (plans ss) ps
-    → Free (after w i (solo s w.rows (tasks_of ss))) j t.held ps
+    → Free (after w i (solo s w.rows (tasks_of s.status ss))) j t.held ps
 still-free w i j s t ss ps a =
-    let x : Stop = solo s w.rows (tasks_of ss) in
+    let x : Stop = solo s w.rows (tasks_of s.status ss) in
     let theirs : Claims = claims_of t.held ps in
     let ne : j ≢ i = λ e. a.differ (sym e) in
     record {
@@ -266,11 +283,11 @@ still-free w i j s t ss ps a =
     }
   where
     both : (rs : List Request) → Each (λ q. IsFree (scene_of w) j q.resource q.mode) rs → Each (λ q. claims_of t.held ps q.resource q.mode ≡ true) rs
-        → Each (λ q. IsFree (scene_of (after w i (solo s w.rows (tasks_of ss)))) j q.resource q.mode) rs
+        → Each (λ q. IsFree (scene_of (after w i (solo s w.rows (tasks_of s.status ss)))) j q.resource q.mode) rs
     both [] p q = tt
     both (r ∷ rs) p q = (
       (
-        fits-after w i j (solo s w.rows (tasks_of ss)) r.resource r.mode a.one.here p.0.0
+        fits-after w i j (solo s w.rows (tasks_of s.status ss)) r.resource r.mode a.one.here p.0.0
             (fits-after-step s w.rows ss (claims_of t.held ps) a.friends r.resource r.mode q.0),
         p.0.1,
       ),
@@ -280,25 +297,25 @@ still-free w i j s t ss ps a =
 -- ---- both orders
 
 reads-apart : (s t : Session) (ts : List Bound) (qs : List Request) → Friends (claims_of s.held qs) (claims_of t.held (plans ts))
-    → EachDo (ReadsOff (claims_of s.held qs)) (tasks_of ts)
+    → EachDo (ReadsOff (claims_of s.held qs)) (tasks_of t.status ts)
 reads-apart s t ts qs friends =
     dos-of (λ q. claims_of t.held (plans ts) q.resource q.mode ≡ true) (ReadsOff (claims_of s.held qs))
-    (λ st each. reads-off (claims_of t.held (plans ts)) (claims_of s.held qs) (friends-flip _ _ friends) st each) ts (claims-asked t.held (plans ts))
+    (λ st each. reads-off (claims_of t.held (plans ts)) (claims_of s.held qs) (friends-flip _ _ friends) st each) t.status ts (claims-asked t.held (plans ts))
 
-pub writes-claimed : (s : Session) (ss : List Bound) → EachDo (WritesUnder (claims_of s.held (plans ss))) (tasks_of ss)
+pub writes-claimed : (s : Session) (ss : List Bound) → EachDo (WritesUnder (claims_of s.held (plans ss))) (tasks_of s.status ss)
 writes-claimed s ss = dos-of (λ q. claims_of s.held (plans ss) q.resource q.mode ≡ true) (WritesUnder (claims_of s.held (plans ss)))
-    (λ st each. writes-under (claims_of s.held (plans ss)) st each) ss (claims-asked s.held (plans ss))
+    (λ st each. writes-under (claims_of s.held (plans ss)) st each) s.status ss (claims-asked s.held (plans ss))
 
 -- the one's step, as it goes over these rows
 abbrev pub alone : Session → Rows' → List Bound → Stop
-alone s rows ss = solo s rows (tasks_of ss)
+alone s rows ss = solo s rows (tasks_of s.status ss)
 
 -- the other's step ends the same before the one's and after it
 ends-same : (w : World) (i j : ℕ) (s t : Session) (ss ts : List Bound) → Apart w i j s t (plans ss) (plans ts)
     → SameStop (claims_of s.held (plans ss)) (alone t (alone s w.rows ss).rows ts) (alone t w.rows ts)
 ends-same w i j s t ss ts a =
-    solo-same (claims_of s.held (plans ss)) t _ _ (tasks_of ts) (reads-apart s t ts (plans ss) a.friends)
-    (solo-within (claims_of s.held (plans ss)) s w.rows (tasks_of ss) (writes-claimed s ss) a.one_under)
+    solo-same (claims_of s.held (plans ss)) t _ _ (tasks_of t.status ts) (reads-apart s t ts (plans ss) a.friends)
+    (solo-within (claims_of s.held (plans ss)) s w.rows (tasks_of s.status ss) (writes-claimed s ss) a.one_under)
 
 rows-same : (w : World) (i j : ℕ) (s t : Session) (ss ts : List Bound) → Apart w i j s t (plans ss) (plans ts)
     → (alone t (alone s w.rows ss).rows ts).rows ≡ (alone s (alone t w.rows ts).rows ss).rows
@@ -308,11 +325,11 @@ rows-same w i j s t ss ts a = same_map _ _ (λ p. at p (known (may_write (claims
     off-one : (p : RowPlace) → may_write (claims_of s.held (plans ss)) p ≡ false
         → get (alone t (alone s w.rows ss).rows ts).rows p ≡ get (alone s (alone t w.rows ts).rows ss).rows p
     off-one p off = (ends-same w i j s t ss ts a).rows.each p off
-        ∙ sym ((solo-within (claims_of s.held (plans ss)) s (alone t w.rows ts).rows (tasks_of ss) (writes-claimed s ss) a.one_under).each p off)
+        ∙ sym ((solo-within (claims_of s.held (plans ss)) s (alone t w.rows ts).rows (tasks_of s.status ss) (writes-claimed s ss) a.one_under).each p off)
 
     off-other : (p : RowPlace) → may_write (claims_of t.held (plans ts)) p ≡ false
         → get (alone t (alone s w.rows ss).rows ts).rows p ≡ get (alone s (alone t w.rows ts).rows ss).rows p
-    off-other p off = (solo-within (claims_of t.held (plans ts)) t (alone s w.rows ss).rows (tasks_of ts) (writes-claimed t ts) a.other_under).each p off
+    off-other p off = (solo-within (claims_of t.held (plans ts)) t (alone s w.rows ss).rows (tasks_of t.status ts) (writes-claimed t ts) a.other_under).each p off
         ∙ sym ((ends-same w j i t s ts ss (apart-flip w i j s t (plans ss) (plans ts) a)).rows.each p off)
 
     at : (p : RowPlace) → (may_write (claims_of s.held (plans ss)) p ≡ true) ⊎ (may_write (claims_of s.held (plans ss)) p ≡ false)
@@ -351,12 +368,12 @@ send-free steps w k i ss is free =
     let P : Step → World = λ st. let x : World = elim (waits_now w.waits st.session) [
       | true ↦ Rattle.machine_model.specs.World.noted w st.session
           (NotSent k)
-      | false ↦ settle (goes w st.session (note (session_at w st.session) (Sent k)) (tasks_of st.statements))
+      | false ↦ settle (goes w st.session (note (session_at w st.session) (Sent k)) (tasks_of (session_at w st.session).status st.statements))
     ] in x in
     let Q : Bool → World = λ b. let x : World = elim b [
       | true ↦ Rattle.machine_model.specs.World.noted w i (NotSent k)
       | false ↦ settle
-          (goes w i (sent w i k) (tasks_of ss))
+          (goes w i (sent w i k) (tasks_of (sent w i k).status ss))
     ] in x in
     ap P is ∙ ap Q free.idle ∙ goes-alone w i (sent w i k) ss free
 

@@ -5,6 +5,7 @@ use Rattle.lock_modes.specs.RowPlace.{RowPlace}
 use Rattle.lock_modes.specs.Rows.{Rows'}
 use Rattle.lock_queues.specs.Locks.{may_have, closes_ring}
 use Rattle.row_tables.specs.Overlay.{Overlay, lay}
+use Rattle.bound_statements.specs.Levels.{asked as asked_by}
 use Rattle.bound_statements.specs.Plan.{Request, request, plan}
 use Rattle.bound_statements.specs.declared.statement.Bound.{Bound}
 use Rattle.statement_evaluation.specs.Effect.{Effect, Gives, Faults, effect}
@@ -64,21 +65,21 @@ changes-laid h o rows under p off = (AgreeOff-laid (claims_of h []) o rows (reco
 
 changes-by : (status : Status) (k : Kind) (s : Session) (rows : Rows') (st : Bound) → UnderLocks s.overlay s.held
     → OnGoes (perform_by status k s rows st) (λ u after. ChangesUnder s.held rows after)
-changes-by Outside Begins s rows st under = λ p off. refl
-changes-by InBlock Begins s rows st under = λ p off. refl
-changes-by Broken Begins s rows st under = tt
+changes-by Outside (Begins level) s rows st under = λ p off. refl
+changes-by (InBlock of) (Begins level) s rows st under = λ p off. refl
+changes-by Broken (Begins level) s rows st under = tt
 changes-by Outside Commits s rows st under = changes-laid s.held s.overlay rows under
-changes-by InBlock Commits s rows st under = changes-laid s.held s.overlay rows under
+changes-by (InBlock of) Commits s rows st under = changes-laid s.held s.overlay rows under
 changes-by Broken Commits s rows st under = λ p off. refl
 changes-by Outside RollsBack s rows st under = λ p off. refl
-changes-by InBlock RollsBack s rows st under = λ p off. refl
+changes-by (InBlock of) RollsBack s rows st under = λ p off. refl
 changes-by Broken RollsBack s rows st under = λ p off. refl
 changes-by Outside Works s rows st under = worked (effect st (lay s.overlay rows))
   where
     worked : (e : Effect) → OnGoes (Rattle.machine_model.specs.Session.worked s rows e) (λ u after. ChangesUnder s.held rows after)
     worked (Gives events writes) = λ p off. refl
     worked (Faults f) = tt
-changes-by InBlock Works s rows st under = worked (effect st (lay s.overlay rows))
+changes-by (InBlock of) Works s rows st under = worked (effect st (lay s.overlay rows))
   where
     worked : (e : Effect) → OnGoes (Rattle.machine_model.specs.Session.worked s rows e) (λ u after. ChangesUnder s.held rows after)
     worked (Gives events writes) = λ p off. refl
@@ -87,7 +88,7 @@ changes-by Broken Works s rows st under = tt
 
 ends-under : (status : Status) (s : Session) (rows : Rows') → UnderLocks s.overlay s.held → ChangesUnder s.held rows (finished_by status s rows).rows
 ends-under Outside s rows under = changes-laid s.held s.overlay rows under
-ends-under InBlock s rows under = λ p off. refl
+ends-under (InBlock of) s rows under = λ p off. refl
 ends-under Broken s rows under = λ p off. refl
 
 writes-under : (last : Session → Rows' → Type 0) → ((s : Session) (rows : Rows') → UnderLocks s.overlay s.held → last s rows)
@@ -105,7 +106,7 @@ writes-under last ends s rows (Ask n r m ∷ ts) have under holds backed =
     asked false rec = rec
 writes-under last ends s rows (Do st ∷ ts) have under holds backed =
     done (perform s rows st) (changes-by s.status (kind st) s rows st under)
-    (perform_by-under s.status (kind st) s rows st (holds-plan s.held have (plan st) holds backed.0) under)
+    (perform_by-under s.status (kind st) s rows st (holds-plan s.held have (asked_by st) holds backed.0) under)
     (λ u after h. writes-under last ends u after ts [] h tt backed.1)
   where
     done : (d : Performed) → OnGoes d (λ u after. ChangesUnder s.held rows after) → OnGoes d (λ u after. UnderLocks u.overlay u.held)
@@ -118,13 +119,13 @@ writes-under last ends s rows (Do st ∷ ts) have under holds backed =
     done (Goes u after) changes h rec = (changes, rec u after h)
     done (Fails f) changes h rec = λ p off. refl
 
-pub footprint : (w : World) (i : ℕ) (ss : List Bound) → Sound w → AllHad (scene_of w) i (session_at w i) w.rows (tasks_of ss) → Footprint w i ss
+pub footprint : (w : World) (i : ℕ) (ss : List Bound) → Sound w → AllHad (scene_of w) i (session_at w i) w.rows (tasks_of (session_at w i).status ss) → Footprint w i ss
 footprint w i ss sound had =
     record {
-      alone = go-had (scene_of w) i (session_at w i) w.rows (tasks_of ss) had;
-      reads = λ hidden b reads agree. solo-same-but hidden (session_at w i) w.rows b (tasks_of ss) reads agree;
-      writes = writes-under EndsUnder (λ s rows under. ends-under s.status s rows under) (session_at w i) w.rows (tasks_of ss) [] (sound.steady.under i) tt
-          (backed-tasks ss);
+      alone = go-had (scene_of w) i (session_at w i) w.rows (tasks_of (session_at w i).status ss) had;
+      reads = λ hidden b reads agree. solo-same-but hidden (session_at w i) w.rows b (tasks_of (session_at w i).status ss) reads agree;
+      writes = writes-under EndsUnder (λ s rows under. ends-under s.status s rows under) (session_at w i) w.rows (tasks_of (session_at w i).status ss) [] (sound.steady.under i) tt
+          (backed-tasks (session_at w i).status ss);
     }
 
 -- ---- up to a request that may not be had
@@ -191,12 +192,12 @@ go-until e i s rows (Do st ∷ ts) us t last had leads = done (λ h. go-until e 
         let R : Performed → Run = λ x. (let r : Run = elim x [ Goes s2 rows2 ↦ go e i s2 rows2 (ts ++ us) | Fails f ↦ stopped e (failed s rows f) ] in r) in
         ap R is ∙ rec (subst P is k)
 
-pub footprint-until : (w : World) (i : ℕ) (ss : List Bound) (ts us : List Task) (t : Session) (rows : Rows') → Sound w → tasks_of ss ≡ ts ++ us
+pub footprint-until : (w : World) (i : ℕ) (ss : List Bound) (ts us : List Task) (t : Session) (rows : Rows') → Sound w → tasks_of (session_at w i).status ss ≡ ts ++ us
     → AllHad (scene_of w) i (session_at w i) w.rows ts → Leads (session_at w i) w.rows ts t rows → FootprintUntil w i ts us t rows
 footprint-until w i ss ts us t rows sound is had leads =
     record {
       alone = go-until (scene_of w) i (session_at w i) w.rows ts us t rows had leads;
       reads = λ hidden b reads agree. leads-same hidden (session_at w i) w.rows b ts t rows reads agree leads;
       writes = writes-under (λ s last. Unit {0}) (λ s last under. tt) (session_at w i) w.rows ts [] (sound.steady.under i) tt
-          (backed-front [] ts us (subst (Backed []) is (backed-tasks ss)));
+          (backed-front [] ts us (subst (Backed []) is (backed-tasks (session_at w i).status ss)));
     }

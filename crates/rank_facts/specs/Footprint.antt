@@ -42,10 +42,10 @@ Leads s rows (Do st ∷ ts) t last = (u : Session) × ((after : Rows') × ((perf
 -- a session whose requests are all had goes as if alone; over rows that agree where its plans let it read it ends the same and changes the same; and it
 -- changes rows only where it then holds the locks to write
 pub record Footprint (w : World) (i : ℕ) (ss : List Bound) : Type 0 where
-  pub alone : go (scene_of w) i (session_at w i) w.rows (tasks_of ss) ≡ stopped (scene_of w) (solo (session_at w i) w.rows (tasks_of ss))
-  pub reads : (hidden : RowPlace → Bool) (b : Rows') → EachDo (ReadsBut hidden) (tasks_of ss) → AgreeBut hidden w.rows b
-      → EndsSame w.rows b (solo (session_at w i) w.rows (tasks_of ss)) (solo (session_at w i) b (tasks_of ss))
-  pub writes : WritesUnder EndsUnder (session_at w i) w.rows (tasks_of ss)
+  pub alone : go (scene_of w) i (session_at w i) w.rows (tasks_of (session_at w i).status ss) ≡ stopped (scene_of w) (solo (session_at w i) w.rows (tasks_of (session_at w i).status ss))
+  pub reads : (hidden : RowPlace → Bool) (b : Rows') → EachDo (ReadsBut hidden) (tasks_of (session_at w i).status ss) → AgreeBut hidden w.rows b
+      → EndsSame w.rows b (solo (session_at w i) w.rows (tasks_of (session_at w i).status ss)) (solo (session_at w i) b (tasks_of (session_at w i).status ss))
+  pub writes : WritesUnder EndsUnder (session_at w i) w.rows (tasks_of (session_at w i).status ss)
 
 -- the same of the first tasks of a step, whose requests are had, whatever comes behind them
 pub record FootprintUntil (w : World) (i : ℕ) (ts us : List Task) (t : Session) (rows : Rows') : Type 0 where

@@ -88,12 +88,12 @@ LinesRun = (reduce : Bool) (spec : Spec) (r : ℕ) (fact : Fact) → spec.lines 
 
 -- the footprint of a step whose requests are all had
 abbrev pub StepsHaveFootprints : Type 0
-StepsHaveFootprints = (w : World) (i : ℕ) (ss : List Bound) → Sound w → AllHad (scene_of w) i (session_at w i) w.rows (tasks_of ss) → Footprint w i ss
+StepsHaveFootprints = (w : World) (i : ℕ) (ss : List Bound) → Sound w → AllHad (scene_of w) i (session_at w i) w.rows (tasks_of (session_at w i).status ss) → Footprint w i ss
 
 -- the footprint of a step up to a request that may not be had
 abbrev pub StepsHaveFootprintsUntil : Type 0
 StepsHaveFootprintsUntil =
-    (w : World) (i : ℕ) (ss : List Bound) (ts us : List Task) (t : Session) (rows : Rows') → Sound w → tasks_of ss ≡ ts ++ us
+    (w : World) (i : ℕ) (ss : List Bound) (ts us : List Task) (t : Session) (rows : Rows') → Sound w → tasks_of (session_at w i).status ss ≡ ts ++ us
     → AllHad (scene_of w) i (session_at w i) w.rows ts → Leads (session_at w i) w.rows ts t rows → FootprintUntil w i ts us t rows
 
 -- the plan of a statement opens every row that the statement looks at

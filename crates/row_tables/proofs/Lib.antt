@@ -5,3 +5,4 @@ pub mod RestoreLemmas
 pub mod StoreLemmas
 pub mod TableLemmas
 pub mod UndoLemmas
+pub mod OnlyLemmas

@@ -3,7 +3,7 @@ use Rattle.std.specs.Prelude.{◌≡◌, ◌≢◌, ℕ, cond, List, [], ◌∷�
 use Rattle.std.specs.Option.{unwrap_or}
 use Rattle.std.specs.Ordering.{nat_cmp, eq_by_cmp}
 use Rattle.finite_maps.specs.Map
-use Rattle.finite_maps.specs.Map.{Order, Map, get, insert, empty, entries}
+use Rattle.finite_maps.specs.Map.{Order, Map, same_key, get, insert, keep, empty, entries}
 use Rattle.finite_maps.specs.Numbers.{nat_order}
 use Rattle.lock_modes.specs.RowPlace.{RowPlace}
 use Rattle.lock_modes.specs.Rows.{Tuple, Rows'}
@@ -47,9 +47,17 @@ wrote session place left l = record l { overlays = insert l.overlays session (in
 abbrev pub undone : ℕ → Layers → Layers
 undone session l = record l { overlays = Map.remove l.overlays session }
 
+-- another session's overlay is dropped
+abbrev pub undone_unless : ℕ → ℕ → Layers → Layers
+undone_unless session other l = cond (eq_by_cmp nat_cmp other session) l (undone other l)
+
 -- the session's overlay is laid over the committed rows for good
 abbrev pub kept : ℕ → Layers → Layers
 kept session l = record { committed = sight session l; overlays = Map.remove l.overlays session }
+
+-- as if no other session had written
+abbrev pub only : ℕ → Layers → Layers
+only session l = record l { overlays = keep (λ c. same_key session_order c session) l.overlays }
 
 abbrev pub rows_in : ℕ → List (RowPlace × Tuple) → List (Value × Tuple)
 rows_in table [] = []

@@ -7,7 +7,7 @@ ghost use Rattle.lock_modes.specs.Value.{value_cmp};
 ghost use Rattle.lock_modes.specs.declared.value.Value.{Value as Key};
 ghost use Rattle.row_tables.specs.Overlay.{laid};
 ghost use Rattle.row_tables.specs.Undo.{noted};
-ghost use Rattle.row_tables.specs.Layers.{sight, rows_of, no_rows, IsOnlyWriterAt, IsOnlyWriterIn, wrote, undone, kept};
+ghost use Rattle.row_tables.specs.Layers.{sight, rows_of, no_rows, IsOnlyWriterAt, IsOnlyWriterIn, only, wrote, undone, undone_unless, kept};
 
 use crate::left::Left;
 use crate::place::RowPlace;
@@ -85,6 +85,17 @@ impl Store {
         self.rows.scan(table)
     }
 
+    /// The store as if no other session had written, of which the session sees the same.
+    pub fn only(&self, session: u8) -> Result<Store, AllocError>
+        ensures { IfOk result (λ store. store ≡ only session self.now) }
+    {
+        let mut store = self.fork()?;
+        for (other, _) in self.undo.iter() {
+            undo_unless(&mut store, session, *other)?;
+        }
+        Ok(store)
+    }
+
     /// Leaves a row, or none, at a key of a table, seen by the session alone until it keeps its writes. No other session
     /// may have a write there that is neither kept nor undone. After a refusal nothing is changed.
     pub fn write(
@@ -141,6 +152,16 @@ fn with_write(
     let list = undo.noted(session, &place, rows)?;
     let rows = rows.replaced(place, left)?;
     Ok((rows, list))
+}
+
+/// Drops what another session wrote.
+fn undo_unless(store: &mut Store, session: u8, other: u8) -> Result<(), AllocError>
+    ensures { OnOk result (store.new ≡ undone_unless session other store.old) }
+{
+    if other == session {
+        return Ok(());
+    }
+    store.undo(other)
 }
 
 impl Fork for Store {

@@ -6,6 +6,7 @@ ghost use Rattle.std.specs.Ordering.{nat_cmp};
 ghost use Rattle.std.specs.BTreeMap.{insert_entry};
 ghost use Rattle.finite_maps.specs.Map as map;
 ghost use Rattle.lock_modes.specs.RowPlace.{place_cmp};
+ghost use Rattle.row_tables.specs.Layers.{session_order};
 ghost use Rattle.row_tables.specs.Overlay.{lay, laid};
 ghost use Rattle.row_tables.specs.Undo.{noted, AreApart};
 
@@ -14,7 +15,7 @@ use crate::place::RowPlace;
 use crate::rows::Rows;
 use finite_maps::Fork;
 use std::alloc::{AllocError, Global};
-use std::collections::BTreeMap;
+use std::collections::{BTreeMap, btree_map};
 use std::marker::Model;
 use version_tree::{Iter, VMap};
 
@@ -130,6 +131,13 @@ impl UndoLists {
             lists: BTreeMap::new(alloc),
             alloc,
         }
+    }
+
+    /// The sessions that have written, each with its list.
+    pub fn iter(&self) -> btree_map::Iter<'_, u8, UndoList>
+        ensures { map.of_entries session_order result ≡ self.now }
+    {
+        self.lists.iter()
     }
 
     pub fn get(&self, session: u8) -> Option<&UndoList>

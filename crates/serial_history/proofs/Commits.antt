@@ -1,5 +1,5 @@
 -- Commits are added behind those that there are.
-use Rattle.std.proofs.Common.{◌≡◌, refl, sym, ap, ◌∙◌, ℕ, zero, suc, Bool, true, false, List, [], ◌∷◌, ◌++◌, append-nil, append_assoc, get_or, length, Option, Some, None}
+use Rattle.std.proofs.Common.{refl, sym, ap, ◌∙◌, ℕ, zero, suc, Bool, true, false, List, [], ◌∷◌, ◌++◌, append-nil, append_assoc, get_or, length, Option, Some, None}
 use Rattle.lock_queues.specs.Locks.{Spot, next_grant, waits_now}
 use Rattle.lock_modes.specs.Rows.{Rows'}
 use Rattle.lock_modes.specs.declared.mode.Mode.{Mode}
@@ -12,7 +12,7 @@ use Rattle.machine_model.specs.Session.{Task, Ask, Do, Session, Performed, Goes,
 use Rattle.machine_model.specs.Go.{Scene, taking, is_broken, reply_in}
 use Rattle.machine_model.specs.declared.reply.Reply.{Reply}
 use Rattle.machine_model.specs.declared.reply.Reply.TheVariants.{Had, Waits, Refused}
-use Rattle.machine_model.specs.World.{World, session_at, look_of, scene_of, granted, goes, left_to_do, send, send_all}
+use Rattle.machine_model.specs.World.{World, session_at, look_of, scene_of, granted, goes, left_to_do, send}
 use Rattle.machine_model.specs.declared.status.Status.{Status}
 use Rattle.machine_model.specs.declared.status.Status.TheVariants.{Outside, InBlock, Broken}
 use Rattle.events.specs.declared.event.Event.TheVariants.{Sent, Resumed}
@@ -39,22 +39,22 @@ well-on : (t : Tally) → Adds t (ended_well t)
 well-on t = (commit_of t.session t.work, refl)
 
 by-on : (status : Status) (k : Kind) (s : Session) (rows : Rows') (st : Bound) (t : Tally) → Adds t (tally_by status k s rows st t)
-by-on Outside Begins s rows st t = stays t.commits
-by-on InBlock Begins s rows st t = stays t.commits
-by-on Broken Begins s rows st t = stays t.commits
+by-on Outside (Begins level) s rows st t = stays t.commits
+by-on (InBlock of) (Begins level) s rows st t = stays t.commits
+by-on Broken (Begins level) s rows st t = stays t.commits
 by-on Outside Commits s rows st t = well-on t
-by-on InBlock Commits s rows st t = well-on t
+by-on (InBlock of) Commits s rows st t = well-on t
 by-on Broken Commits s rows st t = stays t.commits
 by-on Outside RollsBack s rows st t = stays t.commits
-by-on InBlock RollsBack s rows st t = stays t.commits
+by-on (InBlock of) RollsBack s rows st t = stays t.commits
 by-on Broken RollsBack s rows st t = stays t.commits
 by-on Outside Works s rows st t = did-on st (effect st (lay s.overlay rows)) t
-by-on InBlock Works s rows st t = did-on st (effect st (lay s.overlay rows)) t
+by-on (InBlock of) Works s rows st t = did-on st (effect st (lay s.overlay rows)) t
 by-on Broken Works s rows st t = stays t.commits
 
 end-on : (status : Status) (t : Tally) → Adds t (tally_end status t)
 end-on Outside t = well-on t
-end-on InBlock t = stays t.commits
+end-on (InBlock of) t = stays t.commits
 end-on Broken t = stays t.commits
 
 asked-on : (e : Scene) (i : ℕ) (s : Session) (rows : Rows') (nowait : Bool) (r : Resource) (m : Mode) (ts : List Task) (t : Tally)
@@ -124,7 +124,7 @@ sent-on w i s ts h false =
 send-on : (steps : List Step) (w : World) (k : ℕ) (h : History) → Grows h (send_told steps w k h)
 send-on steps w k h =
     let st : Step = get_or steps k no_step in
-    sent-on w st.session (note (session_at w st.session) (Sent k)) (tasks_of st.statements) h (waits_now w.waits st.session)
+    sent-on w st.session (note (session_at w st.session) (Sent k)) (tasks_of (session_at w st.session).status st.statements) h (waits_now w.waits st.session)
 
 all-on : (steps : List Step) (w : World) (ks : List ℕ) (h : History) → Grows h (send_all_told steps w ks h)
 all-on steps w [] h = stays h.commits

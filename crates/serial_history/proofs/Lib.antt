@@ -5,4 +5,5 @@ pub mod SerialLine
 pub mod Shown
 pub mod StartsTold
 pub mod WorkTold
+pub mod Wholes
 pub mod Worked

@@ -9,7 +9,7 @@ use Rattle.machine_model.specs.Session.{after_fault}
 use Rattle.machine_model.specs.declared.status.Status.{Status}
 use Rattle.machine_model.specs.declared.status.Status.TheVariants.{Outside, InBlock, Broken}
 use Rattle.serial_history.specs.Reading.{is_data, data_of, Closed, Reading, closed_with, ends, step_ends, opens, read_one, read, closed_events, told_in}
-use Rattle.serial_history.specs.Serial.{Did, Ended, ended_with, events_of, closed_of, reading_of, AllTell}
+use Rattle.serial_history.specs.Serial.{Did, Ended, ended_with, events_of, closed_of, untold, reading_of, AllTell}
 use Rattle.serial_history.proofs.WorkTold.{AllData, TellsWork}
 
 -- ---- reading
@@ -54,7 +54,7 @@ read-data x (e ∷ es) all =
 pub failed-reads : (status : Status) (x : Reading) → step_ends (after_fault status) (ends false (after_fault status) x) ≡ ends false (after_fault status) x
 failed-reads Outside x =
     ap (λ xs. let y : Reading = record { status = Outside; pending = []; ended = xs } in y) (append-nil (x.ended ++ closed_with false x.pending))
-failed-reads InBlock x = refl
+failed-reads (InBlock of) x = refl
 failed-reads Broken x = refl
 
 -- ---- what a history tells is read so
@@ -80,9 +80,9 @@ closed_of-ended b (x ∷ xs) ds all =
 
 -- what was open has ended
 pub ended-reads : (b : Bool) (status status2 : Status) (ds : List Did) (xs : List Ended) → AllTell ds
-    → reading_of status2 [] (xs ++ ended_with b ds) ≡ ends b status2 (reading_of status ds xs)
+    → reading_of status2 [] (xs ++ ended_with b ds) ≡ ends b (untold status2) (reading_of status ds xs)
 ended-reads b status status2 ds xs all =
-    ap (λ cs. let y : Reading = record { status = status2; pending = []; ended = cs } in y) (closed_of-ended b xs ds all)
+    ap (λ cs. let y : Reading = record { status = untold status2; pending = []; ended = cs } in y) (closed_of-ended b xs ds all)
 
 -- one more statement is done
 pub did-reads : (b : Bool) (status : Status) (ds : List Did) (xs : List Ended) (d : Did) (ws : List Write) → TellsWork b (Gives d.events ws)
@@ -108,7 +108,7 @@ ends-keeps b status x = append-nil (closed_events (x.ended ++ closed_with b x.pe
 
 step_ends-keeps : (status : Status) (x : Reading) → told_in (step_ends status x) ≡ told_in x
 step_ends-keeps Outside x = ends-keeps true Outside x
-step_ends-keeps InBlock x = refl
+step_ends-keeps (InBlock of) x = refl
 step_ends-keeps Broken x = refl
 
 opens-keeps : (e : Event) (x : Reading) (es : List Event) → told_in (opens e x) ++ es ≡ told_in x ++ e ∷ es

@@ -1,5 +1,5 @@
 -- Every line is a serial run of its commits.
-use Rattle.std.proofs.Common.{◌≡◌, refl, sym, ap, ◌∙◌, subst, ℕ, Bool, true, false, cond, List, [], ◌∷◌, ◌++◌, Some, ⊎_elim, append-nil}
+use Rattle.std.proofs.Common.{◌≡◌, refl, sym, ap, ◌∙◌, subst, ℕ, Bool, true, false, cond, List, [], ◌∷◌, ◌++◌, map, Some, ⊎_elim, append-nil}
 use Rattle.finite_maps.specs.Map.{Map, get, empty, entries}
 use Rattle.lock_modes.specs.RowPlace.{RowPlace}
 use Rattle.lock_modes.specs.Rows.{Rows', Write}
@@ -7,6 +7,10 @@ use Rattle.lock_modes.specs.Mode.{compatible, AtLeast}
 use Rattle.lock_queues.specs.Locks.{may_have, closes_ring}
 use Rattle.row_tables.specs.Overlay.{Overlay, lay, written}
 use Rattle.statement_evaluation.specs.Effect.{Effect, Gives, Faults, effect}
+use Rattle.bound_statements.specs.Levels.{is_unlocked, asked as asked_by}
+use Rattle.bound_statements.proofs.LevelLemmas.{asked-locked}
+use Rattle.statement_evaluation.proofs.LevelEffects.{unlocked-writes}
+use Rattle.statement_evaluation.proofs.WriteLemmas.{OnGives}
 use Rattle.bound_statements.specs.Plan.{Request, request, plan, opened, asks_on, reads_table}
 use Rattle.machine_model.specs.Session.{Task, Ask, Do, Session, Held, Performed, Goes, Fails, Kind, Begins, Commits, RollsBack, Works, kind, perform}
 use Rattle.machine_model.specs.Session.{perform_by, worked}
@@ -15,7 +19,7 @@ use Rattle.machine_model.specs.declared.reply.Reply.TheVariants.{Had, Waits, Ref
 use Rattle.machine_model.specs.Claims.{Claims, may_write, claims_of}
 use Rattle.machine_model.specs.Sound.{HoldsAll, Backed, UnderLocks}
 use Rattle.serial_history.specs.Serial.{Transaction, Did, is_work, commit_of, Tally, ended_well, dropped, did, tally_by, tally_end, go_tally, Replay, SerialRun}
-use Rattle.serial_history.specs.Serial.{WorkHeld, Repeats}
+use Rattle.serial_history.specs.Serial.{WorkHeld, Repeats, locked_work, locked_commit}
 use Rattle.events.specs.declared.event.Fault.TheVariants.{Aborted}
 use Rattle.lock_modes.specs.declared.mode.Mode.{Mode}
 use Rattle.lock_modes.specs.declared.mode.Mode.TheVariants.{IntentShare, IntentExclusive, Share, ShareIntent, Exclusive}
@@ -48,13 +52,39 @@ lay-empty : (rows : Rows') → lay empty rows ≡ rows
 unfolding lay empty entries
 lay-empty rows = refl
 
--- the work that ends is a transaction more, or there is none and the rows stay
-SerialRun-ends : (rows : Rows') (ts : List Transaction) (last : Rows') (i : ℕ) (ds : List Did) (o : Overlay) → SerialRun rows ts last → Replay last empty ds o
-    → SerialRun rows (ts ++ commit_of i ds) (lay o last)
-SerialRun-ends rows ts last i [] o s r =
+commits-push : (ts : List Transaction) (t : Transaction) → map locked_commit (ts ++ t ∷ []) ≡ map locked_commit ts ++ locked_commit t ∷ []
+commits-push [] t = refl
+commits-push (u ∷ ts) t = ap (λ us. locked_commit u ∷ us) (commits-push ts t)
+
+-- without the selects that asked for no lock, the work that ends is a transaction more, or there is none and the rows stay
+SerialRun-locked : (rows : Rows') (ts : List Transaction) (last : Rows') (i : ℕ) (ds : List Did) (o : Overlay) → SerialRun rows (map locked_commit ts) last
+    → Replay last empty (locked_work ds) o → SerialRun rows (map locked_commit (ts ++ commit_of i ds)) (lay o last)
+SerialRun-locked rows ts last i [] o s r =
     let same : lay o last ≡ last = ap (λ x. lay x last) (sym r) ∙ lay-empty last in
-    subst (λ us. SerialRun rows us (lay o last)) (sym (append-nil ts)) (subst (λ x. SerialRun rows ts x) (sym same) s)
-SerialRun-ends rows ts last i (d ∷ ds) o s r = SerialRun-push rows ts last (record { session = i; work = d ∷ ds }) o s r
+    subst (λ us. SerialRun rows (map locked_commit us) (lay o last)) (sym (append-nil ts)) (subst (λ x. SerialRun rows (map locked_commit ts) x) (sym same) s)
+SerialRun-locked rows ts last i (d ∷ ds) o s r =
+    let t : Transaction = record { session = i; work = d ∷ ds } in
+    subst (λ us. SerialRun rows us (lay o last)) (sym (commits-push ts t)) (SerialRun-push rows (map locked_commit ts) last (locked_commit t) o s r)
+
+-- what is done last is left out or not
+locked-one : (ds : List Did) (d : Did) → locked_work (ds ++ d ∷ []) ≡ locked_work ds ++ cond (is_unlocked d.statement) [] (d ∷ [])
+locked-one [] d = refl
+locked-one (e ∷ ds) d = at (is_unlocked e.statement) (locked-one ds d)
+  where
+    at : (b : Bool) → locked_work (ds ++ d ∷ []) ≡ locked_work ds ++ cond (is_unlocked d.statement) [] (d ∷ [])
+        → cond b (locked_work (ds ++ d ∷ [])) (e ∷ locked_work (ds ++ d ∷ []))
+        ≡ cond b (locked_work ds) (e ∷ locked_work ds) ++ cond (is_unlocked d.statement) [] (d ∷ [])
+    at true rec = rec
+    at false rec = ap (λ xs. e ∷ xs) rec
+
+locked-did : (ds : List Did) (d : Did) (b : Bool) → is_unlocked d.statement ≡ false
+    → locked_work (ds ++ cond b (d ∷ []) []) ≡ locked_work ds ++ cond b (d ∷ []) []
+locked-did ds d true u = locked-one ds d ∙ ap (λ c. locked_work ds ++ cond c [] (d ∷ [])) u
+locked-did ds d false u = ap locked_work (append-nil ds) ∙ sym (append-nil (locked_work ds))
+
+unlocked-did : (ds : List Did) (d : Did) (b : Bool) → is_unlocked d.statement ≡ true → locked_work (ds ++ cond b (d ∷ []) []) ≡ locked_work ds
+unlocked-did ds d true u = locked-one ds d ∙ ap (λ c. locked_work ds ++ cond c [] (d ∷ [])) u ∙ append-nil (locked_work ds)
+unlocked-did ds d false u = ap locked_work (append-nil ds)
 
 -- a statement that is no work leaves the overlay
 Replay-did : (rows : Rows') (o : Overlay) (ds : List Did) (o2 : Overlay) (d : Did) (ws : List Write) (b : Bool) → TellsWork b (Gives d.events ws)
@@ -151,8 +181,8 @@ repeats-other rows s work o theirs fit under x =
 module _ (start : Rows') (Others : Rows' → Type 0) (e : Scene) (i : ℕ)
     (keeps : (h : Held) (o : Overlay) (rows : Rows') → HeldFits e i h → UnderLocks o h → Others rows → Others (lay o rows)) where
   pub record Telling (s : Session) (rows : Rows') (t : Tally) : Type 0 where
-    pub serial : SerialRun start t.commits rows
-    pub own : Repeats rows s t.work
+    pub serial : SerialRun start (map locked_commit t.commits) rows
+    pub own : Repeats rows s (locked_work t.work)
     pub others : Others rows
 
   repeats-none : (rows : Rows') (s : Session) → s.overlay ≡ empty → Repeats rows s []
@@ -163,7 +193,7 @@ module _ (start : Rows') (Others : Rows' → Type 0) (e : Scene) (i : ℕ)
       → Telling s2 (lay s.overlay rows) (ended_well t)
   committed s s2 rows t is fits under x =
       record {
-        serial = SerialRun-ends start t.commits rows t.session t.work s.overlay x.serial x.own.replay;
+        serial = SerialRun-locked start t.commits rows t.session t.work s.overlay x.serial x.own.replay;
         own = repeats-none (lay s.overlay rows) s2 is;
         others = keeps s.held s.overlay rows fits under x.others;
       }
@@ -176,54 +206,73 @@ module _ (start : Rows') (Others : Rows' → Type 0) (e : Scene) (i : ℕ)
       record {
         serial = x.serial;
         own = record {
-          replay = subst (Replay rows empty t.work) (sym o) x.own.replay;
-          held = subst (λ k. WorkHeld k t.work) (sym h) x.own.held;
+          replay = subst (Replay rows empty (locked_work t.work)) (sym o) x.own.replay;
+          held = subst (λ k. WorkHeld k (locked_work t.work)) (sym h) x.own.held;
         };
         others = x.others;
       }
 
   worked-tells : (s : Session) (rows : Rows') (st : Bound) (f : Effect) (t : Tally) → effect st (lay s.overlay rows) ≡ f → TellsWork (is_work st) f
-      → HoldsAll s.held (plan st) → Telling s rows t → OnGoes (worked s rows f) (λ s2 rows2. Telling s2 rows2 (did st f t))
+      → HoldsAll s.held (asked_by st) → Telling s rows t → OnGoes (worked s rows f) (λ s2 rows2. Telling s2 rows2 (did st f t))
   worked-tells s rows st (Gives events writes) t is tells holds x =
-      let new : Did = record { statement = st; events = events } in
-      record {
-        serial = x.serial;
-        own = record {
-          replay = Replay-did rows empty t.work s.overlay new writes (is_work st) tells x.own.replay is;
-          held = work-did s.held t.work new (is_work st) x.own.held holds;
-        };
-        others = x.others;
-      }
+      record { serial = x.serial; own = by (is_unlocked st) refl; others = x.others }
+    where
+      new : Did
+      new = record { statement = st; events = events }
+
+      all : List Did
+      all = t.work ++ cond (is_work st) (new ∷ []) []
+
+      s2 : Session
+      s2 = record s { overlay = written writes s.overlay; transcript = s.transcript ++ events }
+
+      by : (b : Bool) → is_unlocked st ≡ b → Repeats rows s2 (locked_work all)
+      by true u =
+          let none : writes ≡ [] = subst (λ f. OnGives f (λ ws. ws ≡ [])) is (unlocked-writes st (lay s.overlay rows) u) in
+          let same : locked_work all ≡ locked_work t.work = unlocked-did t.work new (is_work st) u in
+          record {
+            replay = subst (λ ds. Replay rows empty ds (written writes s.overlay)) (sym same)
+                (subst (λ ws. Replay rows empty (locked_work t.work) (written ws s.overlay)) (sym none) x.own.replay);
+            held = subst (WorkHeld s.held) (sym same) x.own.held;
+          }
+      by false u =
+          let same : locked_work all ≡ locked_work t.work ++ cond (is_work st) (new ∷ []) [] = locked-did t.work new (is_work st) u in
+          record {
+            replay = subst (λ ds. Replay rows empty ds (written writes s.overlay)) (sym same)
+                (Replay-did rows empty (locked_work t.work) s.overlay new writes (is_work st) tells x.own.replay is);
+            held = subst (WorkHeld s.held) (sym same)
+                (work-did s.held (locked_work t.work) new (is_work st) x.own.held (subst (HoldsAll s.held) (asked-locked st u) holds));
+          }
   worked-tells s rows st (Faults f) t is tells holds x = tt
 
   perform_by-tells : (status : Status) (k : Kind) (s : Session) (rows : Rows') (st : Bound) (t : Tally) → HeldFits e i s.held → UnderLocks s.overlay s.held
-      → HoldsAll s.held (plan st) → Telling s rows t → OnGoes (perform_by status k s rows st) (λ s2 rows2. Telling s2 rows2 (tally_by status k s rows st t))
-  perform_by-tells Outside Begins s rows st t fits under holds x = as_is s _ rows t refl refl x
-  perform_by-tells InBlock Begins s rows st t fits under holds x = as_is s _ rows t refl refl x
-  perform_by-tells Broken Begins s rows st t fits under holds x = tt
+      → HoldsAll s.held (asked_by st) → Telling s rows t → OnGoes (perform_by status k s rows st) (λ s2 rows2. Telling s2 rows2 (tally_by status k s rows st t))
+  perform_by-tells Outside (Begins level) s rows st t fits under holds x = as_is s _ rows t refl refl x
+  perform_by-tells (InBlock of) (Begins level) s rows st t fits under holds x = as_is s _ rows t refl refl x
+  perform_by-tells Broken (Begins level) s rows st t fits under holds x = tt
   perform_by-tells Outside Commits s rows st t fits under holds x = committed s _ rows t refl fits under x
-  perform_by-tells InBlock Commits s rows st t fits under holds x = committed s _ rows t refl fits under x
+  perform_by-tells (InBlock of) Commits s rows st t fits under holds x = committed s _ rows t refl fits under x
   perform_by-tells Broken Commits s rows st t fits under holds x = let_go s _ rows t refl x
   perform_by-tells Outside RollsBack s rows st t fits under holds x = let_go s _ rows t refl x
-  perform_by-tells InBlock RollsBack s rows st t fits under holds x = let_go s _ rows t refl x
+  perform_by-tells (InBlock of) RollsBack s rows st t fits under holds x = let_go s _ rows t refl x
   perform_by-tells Broken RollsBack s rows st t fits under holds x = let_go s _ rows t refl x
   perform_by-tells Outside Works s rows st t fits under holds x = worked-tells s rows st (effect st (lay s.overlay rows)) t refl
       (effect-work st (lay s.overlay rows)) holds x
-  perform_by-tells InBlock Works s rows st t fits under holds x = worked-tells s rows st (effect st (lay s.overlay rows)) t refl
+  perform_by-tells (InBlock of) Works s rows st t fits under holds x = worked-tells s rows st (effect st (lay s.overlay rows)) t refl
       (effect-work st (lay s.overlay rows)) holds x
   perform_by-tells Broken Works s rows st t fits under holds x = tt
 
   end-tells : (status : Status) (s : Session) (rows : Rows') (t : Tally) → HeldFits e i s.held → UnderLocks s.overlay s.held → Telling s rows t
       → Telling (finished_by status s rows).session (finished_by status s rows).rows (tally_end status t)
   end-tells Outside s rows t fits under x = committed s _ rows t refl fits under x
-  end-tells InBlock s rows t fits under x = as_is s _ rows t refl refl x
+  end-tells (InBlock of) s rows t fits under x = as_is s _ rows t refl refl x
   end-tells Broken s rows t fits under x = as_is s _ rows t refl refl x
 
   taking-tells : (s : Session) (r : Resource) (m : Mode) (rows : Rows') (t : Tally) → Telling s rows t → Telling (taking s r m) rows t
   taking-tells s r m rows t x =
       record {
         serial = x.serial;
-        own = record { replay = x.own.replay; held = work-taking s.held r m s refl t.work x.own.held };
+        own = record { replay = x.own.replay; held = work-taking s.held r m s refl (locked_work t.work) x.own.held };
         others = x.others;
       }
 
@@ -259,8 +308,8 @@ module _ (start : Rows') (Others : Rows' → Type 0) (e : Scene) (i : ℕ)
       asked false false false false is rec = as_is s _ rows t refl refl x
   go-tells s rows (Do st ∷ ts) t have fits under holds backed x =
       done (perform s rows st) (perform-held (HeldFits e i) (held-fits-empty e i) s rows st fits)
-      (perform_by-under s.status (kind st) s rows st (holds-plan s.held have (plan st) holds backed.0) under)
-      (perform_by-tells s.status (kind st) s rows st t fits under (holds-plan s.held have (plan st) holds backed.0) x)
+      (perform_by-under s.status (kind st) s rows st (holds-plan s.held have (asked_by st) holds backed.0) under)
+      (perform_by-tells s.status (kind st) s rows st t fits under (holds-plan s.held have (asked_by st) holds backed.0) x)
       (λ s2 rows2 f u y. go-tells s2 rows2 ts (tally_by s.status (kind st) s rows st t) [] f u tt backed.1 y)
     where
       done : (d : Performed) → OnGoes d (λ s2 rows2. HeldFits e i s2.held) → OnGoes d (λ s2 rows2. UnderLocks s2.overlay s2.held)

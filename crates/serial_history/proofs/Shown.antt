@@ -2,13 +2,13 @@
 use Rattle.std.proofs.Common.{◌≡◌, ◌≢◌, refl, sym, ap, ◌∙◌, subst, ℕ, zero, suc, ◌<◌, Bool, true, false, cond, ◌==◌, List, [], ◌∷◌, ◌++◌, length, set, get_or}
 use Rattle.std.proofs.Common.{Option, Some, None, ⊎_elim, append_assoc, append-nil, eqb-true, eq-eqb, length-set, get_or-set_same, get_or-set_other}
 use Rattle.finite_maps.specs.Map.{get}
-use Rattle.lock_queues.specs.Locks.{Spot, may_have, closes_ring, answered, next_grant, waits_now}
+use Rattle.lock_queues.specs.Locks.{Spot, may_have, closes_ring, next_grant, waits_now}
 use Rattle.lock_modes.specs.Rows.{Rows'}
 use Rattle.row_tables.specs.Overlay.{lay}
 use Rattle.statement_evaluation.specs.Effect.{Effect, Gives, Faults, effect}
 use Rattle.machine_model.specs.Session.{Task, Ask, Do, Session, Performed, Goes, Fails, Kind, Begins, Commits, RollsBack, Works, kind, perform, perform_by}
-use Rattle.machine_model.specs.Session.{worked, note, tasks_of}
-use Rattle.machine_model.specs.Go.{replied, Scene, Run, taking, is_broken, failed, finished_by, stopped, go, held_up, look_with, waiting_with}
+use Rattle.machine_model.specs.Session.{worked, after_fault, note, tasks_of}
+use Rattle.machine_model.specs.Go.{broken_off, replied, Scene, Run, taking, is_broken, failed, finished_by, stopped, go, held_up, look_with, waiting_with}
 use Rattle.machine_model.specs.declared.reply.Reply.TheVariants.{Had, Waits, Refused}
 use Rattle.machine_model.specs.World.{World, session_at, look_of, scene_of, goes, granted, settle, settle_for, left_to_do, send, send_all, noted}
 use Rattle.bound_specs.specs.Spec.{Step, no_step}
@@ -16,7 +16,7 @@ use Rattle.machine_model.specs.Sound.{Steady, Sound}
 use Rattle.serial_history.specs.Reading.{Reading, ends, step_ends, read}
 use Rattle.serial_history.specs.Serial.{Did, Transaction, is_work, ended_with, commit_of, Ended, Tally, ended_well, dropped, did, tally_by, tally_end, go_tally}
 use Rattle.serial_history.specs.Serial.{History, tally_of, goes_told, granted_told, settle_told, send_told, send_all_told, reading_of, AllTell, EndedTell}
-use Rattle.serial_history.specs.Serial.{commits_of, committed_in, Shown}
+use Rattle.serial_history.specs.Serial.{commits_of, committed_in, untold, Shown}
 use Rattle.events.specs.declared.event.Event.{Event}
 use Rattle.events.specs.declared.event.Event.TheVariants.{Sent, Began, Committed, RolledBack, Warned, Failed, Waiting, Resumed, Done, NotSent}
 use Rattle.events.specs.declared.event.Warning.TheVariants.{InBlock as AlreadyInBlock, NoBlock}
@@ -73,6 +73,12 @@ with-tells : (b : Bool) (ds : List Did) → AllTell ds → EndedTell (ended_with
 with-tells b [] h = tt
 with-tells b (d ∷ ds) h = (h, tt)
 
+-- a fault leaves no level behind
+fault-untold : (status : Status) → after_fault (untold status) ≡ untold (after_fault status)
+fault-untold Outside = refl
+fault-untold (InBlock level) = refl
+fault-untold Broken = refl
+
 -- ---- a session goes. `before` is what was committed before it
 module _ (from : Reading) (i : ℕ) (before : List Transaction) where
   abbrev reading : Session → Tally → Reading
@@ -99,7 +105,7 @@ module _ (from : Reading) (i : ℕ) (before : List Transaction) where
         others = x.others;
       }
 
-  let_go : (s s2 : Session) (t : Tally) (es : List Event) → s2.transcript ≡ s.transcript ++ es → ends false s2.status (reading s t) ≡ read (reading s t) es
+  let_go : (s s2 : Session) (t : Tally) (es : List Event) → s2.transcript ≡ s.transcript ++ es → ends false (untold s2.status) (reading s t) ≡ read (reading s t) es
       → Faithful s t → Faithful s2 (dropped t)
   let_go s s2 t es told e x =
       record {
@@ -113,7 +119,7 @@ module _ (from : Reading) (i : ℕ) (before : List Transaction) where
         others = x.others;
       }
 
-  committed : (s s2 : Session) (t : Tally) (es : List Event) → s2.transcript ≡ s.transcript ++ es → ends true s2.status (reading s t) ≡ read (reading s t) es
+  committed : (s s2 : Session) (t : Tally) (es : List Event) → s2.transcript ≡ s.transcript ++ es → ends true (untold s2.status) (reading s t) ≡ read (reading s t) es
       → Faithful s t → Faithful s2 (ended_well t)
   committed s s2 t es told e x =
       record {
@@ -154,34 +160,36 @@ module _ (from : Reading) (i : ℕ) (before : List Transaction) where
 
   perform_by-faithful : (status : Status) (k : Kind) (s : Session) (rows : Rows') (st : Bound) (t : Tally) → s.status ≡ status → Faithful s t
       → OnGoes (perform_by status k s rows st) (λ s2 rows2. Faithful s2 (tally_by status k s rows st t))
-  perform_by-faithful Outside Begins s rows st t is x = goes_on s _ t (Began ∷ []) refl refl x
-  perform_by-faithful InBlock Begins s rows st t is x =
-      goes_on s _ t (Warned AlreadyInBlock ∷ Began ∷ []) (by-two s.transcript (Warned AlreadyInBlock) Began) (status-is InBlock s t is) x
-  perform_by-faithful Broken Begins s rows st t is x = tt
+  perform_by-faithful Outside (Begins level) s rows st t is x = goes_on s _ t (Began ∷ []) refl refl x
+  perform_by-faithful (InBlock of) (Begins level) s rows st t is x =
+      goes_on s _ t (Warned AlreadyInBlock ∷ Began ∷ []) (by-two s.transcript (Warned AlreadyInBlock) Began) (status-is (InBlock of) s t is) x
+  perform_by-faithful Broken (Begins level) s rows st t is x = tt
   perform_by-faithful Outside Commits s rows st t is x = committed s _ t (Warned NoBlock ∷ Committed ∷ [])
       (by-two s.transcript (Warned NoBlock) Committed) refl x
-  perform_by-faithful InBlock Commits s rows st t is x = committed s _ t (Committed ∷ []) refl refl x
+  perform_by-faithful (InBlock of) Commits s rows st t is x = committed s _ t (Committed ∷ []) refl refl x
   perform_by-faithful Broken Commits s rows st t is x = let_go s _ t (RolledBack ∷ []) refl refl x
   perform_by-faithful Outside RollsBack s rows st t is x = let_go s _ t (Warned NoBlock ∷ RolledBack ∷ [])
       (by-two s.transcript (Warned NoBlock) RolledBack) refl x
-  perform_by-faithful InBlock RollsBack s rows st t is x = let_go s _ t (RolledBack ∷ []) refl refl x
+  perform_by-faithful (InBlock of) RollsBack s rows st t is x = let_go s _ t (RolledBack ∷ []) refl refl x
   perform_by-faithful Broken RollsBack s rows st t is x = let_go s _ t (RolledBack ∷ []) refl refl x
   perform_by-faithful Outside Works s rows st t is x = worked-faithful s rows st (effect st (lay s.overlay rows)) t (effect-work st (lay s.overlay rows)) x
-  perform_by-faithful InBlock Works s rows st t is x = worked-faithful s rows st (effect st (lay s.overlay rows)) t (effect-work st (lay s.overlay rows)) x
+  perform_by-faithful (InBlock of) Works s rows st t is x = worked-faithful s rows st (effect st (lay s.overlay rows)) t (effect-work st (lay s.overlay rows)) x
   perform_by-faithful Broken Works s rows st t is x = tt
 
   end-faithful : (status : Status) (s : Session) (rows : Rows') (t : Tally) → s.status ≡ status → Faithful s t
       → Faithful (finished_by status s rows).session (tally_end status t)
   end-faithful Outside s rows t is x =
-      committed s _ t (Done ∷ []) refl (ap (λ k. ends true k (reading s t)) is ∙ sym (ap (λ k. step_ends k (reading s t)) is)) x
-  end-faithful InBlock s rows t is x = goes_on s _ t (Done ∷ []) refl (sym (ap (λ k. step_ends k (reading s t)) is)) x
-  end-faithful Broken s rows t is x = goes_on s _ t (Done ∷ []) refl (sym (ap (λ k. step_ends k (reading s t)) is)) x
+      committed s (finished_by Outside s rows).session t (Done ∷ []) refl
+      (ap (λ k. ends true (untold k) (reading s t)) is ∙ sym (ap (λ k. step_ends (untold k) (reading s t)) is)) x
+  end-faithful (InBlock of) s rows t is x = goes_on s _ t (Done ∷ []) refl (sym (ap (λ k. step_ends (untold k) (reading s t)) is)) x
+  end-faithful Broken s rows t is x = goes_on s _ t (Done ∷ []) refl (sym (ap (λ k. step_ends (untold k) (reading s t)) is)) x
 
   abbrev AfterRun : Run → Tally → Type 0
   AfterRun r t = Faithful r.session t
 
   failed-faithful : (e : Scene) (s : Session) (rows : Rows') (f : Fault) (t : Tally) → Faithful s t → AfterRun (stopped e (failed s rows f)) (dropped t)
-  failed-faithful e s rows f t x = let_go s _ t (Failed f ∷ Done ∷ []) refl (sym (failed-reads s.status (reading s t))) x
+  failed-faithful e s rows f t x = let_go s (broken_off s f) t (Failed f ∷ Done ∷ []) refl
+      (ap (λ k. ends false k (reading s t)) (sym (fault-untold s.status)) ∙ sym (failed-reads (untold s.status) (reading s t))) x
 
   pub go-faithful : (e : Scene) (s : Session) (rows : Rows') (ts : List Task) (t : Tally) → Faithful s t
       → AfterRun (go e i s rows ts) (go_tally e i s rows ts t)
@@ -306,8 +314,8 @@ send-shown from steps w k h sound lt x = at (waits_now w.waits i) refl
     s = note (session_at w i) (Sent k)
 
     at : (b : Bool) → waits_now w.waits i ≡ b
-        → Shown from (elim b [ true ↦ noted w i (NotSent k) | false ↦ settle (goes w i s (tasks_of ss)) ])
-        (elim b [ true ↦ h | false ↦ settle_told (left_to_do (goes w i s (tasks_of ss))) (goes w i s (tasks_of ss)) (goes_told w i s (tasks_of ss) h) ])
+        → Shown from (elim b [ true ↦ noted w i (NotSent k) | false ↦ settle (goes w i s (tasks_of s.status ss)) ])
+        (elim b [ true ↦ h | false ↦ settle_told (left_to_do (goes w i s (tasks_of s.status ss))) (goes w i s (tasks_of s.status ss)) (goes_told w i s (tasks_of s.status ss) h) ])
     at true is =
         let n : Session = note (session_at w i) (NotSent k) in
         record {
@@ -320,9 +328,9 @@ send-shown from steps w k h sound lt x = at (waits_now w.waits i) refl
           count_ended = x.count_ended ∙ sym (length-set w.sessions i n);
         }
     at false is =
-        settle-shown (left_to_do (goes w i s (tasks_of ss))) from (goes w i s (tasks_of ss)) (goes_told w i s (tasks_of ss) h)
-        (goes-steady w i s (tasks_of ss) (entering w i s ss (steady-of w sound) lt is refl refl))
-        (goes-shown from w h i s (tasks_of ss) lt refl (sym (read-more (from i) _ (session_at w i).transcript (Sent k ∷ []) refl)) x)
+        settle-shown (left_to_do (goes w i s (tasks_of s.status ss))) from (goes w i s (tasks_of s.status ss)) (goes_told w i s (tasks_of s.status ss) h)
+        (goes-steady w i s (tasks_of s.status ss) (entering w i s s.status ss (steady-of w sound) lt is refl refl))
+        (goes-shown from w h i s (tasks_of s.status ss) lt refl (sym (read-more (from i) _ (session_at w i).transcript (Sent k ∷ []) refl)) x)
 
 -- so does a whole line
 pub line-shown : (from : ℕ → Reading) (steps : List Step) (w : World) (ks : List ℕ) (h : History) → Sound w

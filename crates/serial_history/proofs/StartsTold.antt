@@ -8,11 +8,12 @@ use Rattle.lock_queues.specs.Locks.{waits_now}
 use Rattle.machine_model.specs.Session.{Task, Ask, Do, Session, Performed, Goes, Fails, perform, tasks_of}
 use Rattle.machine_model.specs.Go.{Run, Stop, taking, is_broken, solo, failed, finished_by, stopped, go}
 use Rattle.machine_model.specs.World.{World, fresh, session_at, scene_of, send_all}
+use Rattle.bound_specs.specs.Levels.{AskAlways}
 use Rattle.bound_specs.specs.Spec.{Spec, no_step, IsBound}
 use Rattle.machine_model.specs.Start.{Start, Started, SetupFailed, SessionSetupFailed, SessionSetupWaits, start, set_up, started_then, main_setups}
 use Rattle.machine_model.specs.Start.{session_setups, after_setup, forgotten, has_failed, is_outside, IsAlone, IsIdle}
 use Rattle.serial_history.specs.Serial.{Shown, reading_in, reading_of, session_setups_said, after_setups, AllTell, EndedTell, commits_of, committed_in, Repeats}
-use Rattle.serial_history.specs.Serial.{Told, History, no_history, goes_told, session_setups_told, first_rows, start_told, send_all_told}
+use Rattle.serial_history.specs.Serial.{Told, locked_work, locked_part, History, no_history, goes_told, session_setups_told, first_rows, start_told, send_all_told}
 use Rattle.serial_history.specs.Reading.{Reading, nothing_read, read}
 use Rattle.events.specs.declared.event.Fault.TheVariants.{Aborted}
 use Rattle.lock_modes.specs.declared.mode.Mode.{Mode}
@@ -27,7 +28,8 @@ use Rattle.machine_model.proofs.Starts.{OnStarted, first_world, first-steady, ge
 use Rattle.machine_model.proofs.Starts.{idle-goes, idle-now, start-sound}
 use Rattle.serial_history.proofs.Readings.{read-append}
 use Rattle.serial_history.proofs.Shown.{goes-shown, line-shown}
-use Rattle.serial_history.proofs.SerialLine.{goes-tells, told-touched, line-tells}
+use Rattle.serial_history.proofs.SerialLine.{Heir, heir-told, goes-tells, told-touched, line-tells}
+use Rattle.serial_history.proofs.Wholes.{line-whole, spec-whole, step-always, whole-told}
 use Rattle.machine_model.proofs.Counts.{bound-fits}
 
 abbrev ClearOutside : Session → Type 0
@@ -35,7 +37,7 @@ ClearOutside s = is_outside s.status ≡ true → s.overlay ≡ empty
 
 finished-clear : (status : Status) (s : Session) (rows : Rows') → s.status ≡ status → ClearOutside (finished_by status s rows).session
 finished-clear Outside s rows is out = refl
-finished-clear InBlock s rows is out = absurd (let e : is_outside InBlock ≡ true = sym (ap is_outside is) ∙ out in cc)
+finished-clear (InBlock of) s rows is out = absurd (let e : is_outside (InBlock of) ≡ true = sym (ap is_outside is) ∙ out in cc)
 finished-clear Broken s rows is out = absurd (let e : is_outside Broken ≡ true = sym (ap is_outside is) ∙ out in cc)
 
 solo-clear : (s : Session) (rows : Rows') (ts : List Task) → ClearOutside (solo s rows ts).session
@@ -59,14 +61,14 @@ alone-clear : (control n : ℕ) (w : World) (block : List Bound) → control < n
 alone-clear control n w block lt a =
     let s = session_at w control in
     let free = all-free (scene_of w) control (λ c r ne. ap (λ (x : Session). get x.held r) (a.others c ne) ∙ get-empty resource_order Mode r) a.idle
-    (tasks_of block) in
-    let gone : go (scene_of w) control s w.rows (tasks_of block)
-    ≡ stopped (scene_of w) (solo s w.rows (tasks_of block)) = go-solo (scene_of w) control s w.rows (tasks_of block) free
+    (tasks_of s.status block) in
+    let gone : go (scene_of w) control s w.rows (tasks_of s.status block)
+    ≡ stopped (scene_of w) (solo s w.rows (tasks_of s.status block)) = go-solo (scene_of w) control s w.rows (tasks_of s.status block) free
     (together-fits w a.steady.together control) in
-    let there : session_at (after_setup w control block) control ≡ (solo s w.rows (tasks_of block)).session =
-    session-there w control (go (scene_of w) control s w.rows (tasks_of block)) (subst (λ k. control < k) (sym a.count) lt)
+    let there : session_at (after_setup w control block) control ≡ (solo s w.rows (tasks_of s.status block)).session =
+    session-there w control (go (scene_of w) control s w.rows (tasks_of s.status block)) (subst (λ k. control < k) (sym a.count) lt)
     ∙ ap (λ (r : Run). r.session) gone in
-    subst ClearOutside (sym there) (solo-clear s w.rows (tasks_of block))
+    subst ClearOutside (sym there) (solo-clear s w.rows (tasks_of s.status block))
 
 no-or : (a b : Bool) → (a || not b) ≡ false → b ≡ true
 no-or true b e = cc
@@ -81,7 +83,7 @@ record SetUp (control n : ℕ) (w : World) : Type 0 where
 
 outside-is : (k : Status) → is_outside k ≡ true → k ≡ Outside
 outside-is Outside e = refl
-outside-is InBlock e = cc
+outside-is (InBlock of) e = cc
 outside-is Broken e = cc
 
 main-set-up : (control n k : ℕ) (w : World) (blocks : List (List Bound)) → control < n → SetUp control n w
@@ -131,34 +133,34 @@ set-up-is spec = main-set-up spec.sessions (suc spec.sessions) 0 (first_world sp
 
 -- ---- session setups
 
-told-first : (n : ℕ) (control : ℕ) (w : World) → SetUp control n w → Told w.rows w (no_history n)
+told-first : (n : ℕ) (control : ℕ) (w : World) → SetUp control n w → Heir w.rows w (no_history n)
 told-first n control w a =
     record {
       serial = refl;
-      each = λ c. subst (λ ds. Repeats w.rows (session_at w c) ds) (sym (get_or-replicate n c [])) (record { replay = sym (clear c); held = tt });
+      each = λ c. subst (λ ds. Repeats w.rows (session_at w c) (locked_work ds)) (sym (get_or-replicate n c [])) (record { replay = sym (clear c); held = tt });
       count = length_replicate n [] ∙ sym a.alone.count;
     }
   where
     clear : (c : ℕ) → (session_at w c).overlay ≡ empty
     clear c = ⊎_elim (λ k. ap (λ d. (session_at w d).overlay) k ∙ a.clear) (λ ne. ap (λ (s : Session). s.overlay) (a.alone.others c ne)) (cases-eq c control)
 
-sessions-told : (first : Rows') (n i : ℕ) (w : World) (blocks : List (List Bound)) (h : History) → i + length blocks ≤ n → IsIdle n w → Told first w h
-    → OnStarted (session_setups i w blocks) (λ v. Told first v (session_setups_told i w blocks h))
+sessions-told : (first : Rows') (n i : ℕ) (w : World) (blocks : List (List Bound)) (h : History) → i + length blocks ≤ n → IsIdle n w → Heir first w h
+    → OnStarted (session_setups i w blocks) (λ v. Heir first v (session_setups_told i w blocks h))
 sessions-told first n i w [] h le a told = told
 sessions-told first n i w (block ∷ blocks) h le a told =
     at (has_failed (session_at (after_setup w i block) i)) (waits_now (after_setup w i block).waits i) refl
-    (λ still. sessions-told first n (suc i) (forgotten (after_setup w i block) i) blocks (goes_told w i (session_at w i) (tasks_of block) h) (omega arith)
+    (λ still. sessions-told first n (suc i) (forgotten (after_setup w i block) i) blocks (goes_told w i (session_at w i) (tasks_of (session_at w i).status block) h) (omega arith)
     (idle-goes n i w block (omega arith) a still)
-    (told-touched first (after_setup w i block) (goes_told w i (session_at w i) (tasks_of block) h) i
+    (told-touched first (after_setup w i block) (goes_told w i (session_at w i) (tasks_of (session_at w i).status block) h) i
     (record (session_at (after_setup w i block) i) { transcript = [] }) refl refl
-    (goes-tells first w h i (session_at w i) (tasks_of block)
-    (entering w i (session_at w i) block a.steady (subst (λ k. i < k) (sym a.count) (omega arith)) (idle-now w i a.idle) refl refl) told
+    (goes-tells first w h i (session_at w i) (tasks_of (session_at w i).status block)
+    (entering w i (session_at w i) (session_at w i).status block a.steady (subst (λ k. i < k) (sym a.count) (omega arith)) (idle-now w i a.idle) refl refl) told
     (told.each i))))
   where
     at : (b c : Bool) → waits_now (after_setup w i block).waits i ≡ c
         → (waits_now (after_setup w i block).waits i ≡ false → OnStarted (session_setups (suc i) (forgotten (after_setup w i block) i) blocks)
-        (λ v. Told first v (session_setups_told (suc i) (forgotten (after_setup w i block) i) blocks
-        (goes_told w i (session_at w i) (tasks_of block) h))))
+        (λ v. Heir first v (session_setups_told (suc i) (forgotten (after_setup w i block) i) blocks
+        (goes_told w i (session_at w i) (tasks_of (session_at w i).status block) h))))
         → OnStarted (elim b [
           | true ↦ SessionSetupFailed i
           | false ↦ elim c [
@@ -166,18 +168,18 @@ sessions-told first n i w (block ∷ blocks) h le a told =
             | false ↦ session_setups (suc i) (forgotten (after_setup w i block) i) blocks
           ]
         ])
-        (λ v. Told first v (session_setups_told (suc i) (forgotten (after_setup w i block) i) blocks
-        (goes_told w i (session_at w i) (tasks_of block) h)))
+        (λ v. Heir first v (session_setups_told (suc i) (forgotten (after_setup w i block) i) blocks
+        (goes_told w i (session_at w i) (tasks_of (session_at w i).status block) h)))
     at true c is rec = tt
     at false true is rec = tt
     at false false is rec = rec is
 
-start-tells : (spec : Spec) → length spec.session_setups ≤ spec.sessions → OnStarted (start spec) (λ w. Told (first_rows spec) w (start_told spec))
+start-tells : (spec : Spec) → length spec.session_setups ≤ spec.sessions → OnStarted (start spec) (λ w. Heir (first_rows spec) w (start_told spec))
 start-tells spec le = at (set_up spec) (set-up-is spec)
   where
     at : (s : Start) → OnStarted s (SetUp spec.sessions (suc spec.sessions))
         → OnStarted (started_then s (λ w. session_setups 0 w spec.session_setups))
-        (λ w. Told (elim s [ Started w ↦ w.rows | _ ↦ empty ]) w
+        (λ w. Heir (elim s [ Started w ↦ w.rows | _ ↦ empty ]) w
         (elim s [ Started w ↦ session_setups_told 0 w spec.session_setups (no_history (suc spec.sessions)) | _ ↦ no_history 0 ]))
     at (Started w) a = sessions-told w.rows (suc spec.sessions) 0 w spec.session_setups (no_history (suc spec.sessions)) (omega arith)
         (record { steady = a.alone.steady; idle = a.alone.idle; count = a.alone.count }) (told-first (suc spec.sessions) spec.sessions w a)
@@ -187,9 +189,9 @@ start-tells spec le = at (set_up spec) (set-up-is spec)
 
 pub spec-serial : (spec : Spec) (w : World) (ks : List ℕ) → length spec.session_setups ≤ spec.sessions → start spec ≡ Started w
     → ((k : ℕ) → (get_or spec.steps k no_step).session < length w.sessions)
-    → Told (first_rows spec) (send_all spec.steps w ks) (send_all_told spec.steps w ks (start_told spec))
+    → Heir (first_rows spec) (send_all spec.steps w ks) (send_all_told spec.steps w ks (start_told spec))
 spec-serial spec w ks le e fit =
-    let told : Told (first_rows spec) w (start_told spec) = subst (λ s. OnStarted s (λ v. Told (first_rows spec) v (start_told spec))) e
+    let told : Heir (first_rows spec) w (start_told spec) = subst (λ s. OnStarted s (λ v. Heir (first_rows spec) v (start_told spec))) e
     (start-tells spec le) in
     line-tells (first_rows spec) spec.steps w ks (start_told spec) (start-sound spec w le e) fit told
 
@@ -235,13 +237,13 @@ forgot-first n control w a =
 -- one session's setup more: each session stands where what it was told leads
 forgot-goes : (from : ℕ → Reading) (w : World) (i : ℕ) (block : List Bound) (h : History) → i < length w.sessions → Forgot from w h
     → Forgot (λ c. read (from c) (session_at (after_setup w i block) c).transcript) (forgotten (after_setup w i block) i)
-    (goes_told w i (session_at w i) (tasks_of block) h)
+    (goes_told w i (session_at w i) (tasks_of (session_at w i).status block) h)
 forgot-goes from w i block h lt x =
     let w2 : World = after_setup w i block in
-    let h2 : History = goes_told w i (session_at w i) (tasks_of block) h in
+    let h2 : History = goes_told w i (session_at w i) (tasks_of (session_at w i).status block) h in
     let s2 : Session = record (session_at w2 i) { transcript = [] } in
-    let gone : Run = go (scene_of w) i (session_at w i) w.rows (tasks_of block) in
-    let y : Shown from w2 h2 = goes-shown from w h i (session_at w i) (tasks_of block) lt refl refl (shown-forgot from w h x) in
+    let gone : Run = go (scene_of w) i (session_at w i) w.rows (tasks_of (session_at w i).status block) in
+    let y : Shown from w2 h2 = goes-shown from w h i (session_at w i) (tasks_of (session_at w i).status block) lt refl refl (shown-forgot from w h x) in
     record {
       blank = λ c. ⊎_elim
           (λ k. ap (λ d. (session_at (forgotten w2 i) d).transcript) k
@@ -274,7 +276,7 @@ sessions-forgot n i from w (block ∷ blocks) h le a x =
     w2 = after_setup w i block
 
     h2 : History
-    h2 = goes_told w i (session_at w i) (tasks_of block) h
+    h2 = goes_told w i (session_at w i) (tasks_of (session_at w i).status block) h
 
     Then : World → Type 0
     Then v = Forgot (λ c. read (from c) (session_setups_said i w (block ∷ blocks) c)) v (session_setups_told (suc i) (forgotten w2 i) blocks h2)
@@ -314,9 +316,19 @@ spec-shown spec w ks le e fit =
     line-shown (after_setups spec) spec.steps w ks (start_told spec) (start-sound spec w le e) fit (shown-forgot (after_setups spec) w (start_told spec) x)
 
 -- the serial order and what the transcripts show, of a spec that is bound
-pub bound-serial : (spec : Spec) (w : World) (ks : List ℕ) → IsBound spec → start spec ≡ Started w
+pub bound-heir : (spec : Spec) (w : World) (ks : List ℕ) → IsBound spec → start spec ≡ Started w
+    → Told (first_rows spec) (send_all spec.steps w ks) (locked_part (send_all_told spec.steps w ks (start_told spec)))
+bound-heir spec w ks bound e =
+    heir-told (first_rows spec) (send_all spec.steps w ks) (send_all_told spec.steps w ks (start_told spec))
+    (spec-serial spec w ks bound.session_setups e (bound-fits spec w bound e))
+
+-- where each statement asks for its whole plan, nothing is left out
+pub bound-serial : (spec : Spec) (w : World) (ks : List ℕ) → IsBound spec → AskAlways spec → start spec ≡ Started w
     → Told (first_rows spec) (send_all spec.steps w ks) (send_all_told spec.steps w ks (start_told spec))
-bound-serial spec w ks bound e = spec-serial spec w ks bound.session_setups e (bound-fits spec w bound e)
+bound-serial spec w ks bound always e =
+    let whole = line-whole spec.steps w ks (start_told spec) (step-always spec.steps always.steps) (spec-whole spec w always e) in
+    whole-told (first_rows spec) (send_all spec.steps w ks) (send_all_told spec.steps w ks (start_told spec)) whole
+    (spec-serial spec w ks bound.session_setups e (bound-fits spec w bound e))
 
 pub bound-shown : (spec : Spec) (w : World) (ks : List ℕ) → IsBound spec → start spec ≡ Started w
     → Shown (after_setups spec) (send_all spec.steps w ks) (send_all_told spec.steps w ks (start_told spec))

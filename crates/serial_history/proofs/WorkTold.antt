@@ -83,6 +83,6 @@ effect-work (Delete t key c) rows =
     (λ es. counted-work Deleted (map (λ (e : RowPlace × Tuple). record { place = e.0; left = None }) es) (λ n. refl))
 effect-work (Lock t m n) rows = ((λ x. refl), refl)
 effect-work SetVariable rows = ((λ x. refl), refl)
-effect-work Begin rows = ((λ x. refl), refl)
+effect-work (Begin level) rows = ((λ x. refl), refl)
 effect-work Commit rows = ((λ x. refl), refl)
 effect-work Rollback rows = ((λ x. refl), refl)

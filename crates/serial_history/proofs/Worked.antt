@@ -1,5 +1,5 @@
 -- Worked histories of the machine, computed.
-use Rattle.std.proofs.Common.{◌≡◌, refl, ℕ, true, false, List, [], ◌∷◌, Some, map}
+use Rattle.std.proofs.Common.{◌≡◌, refl, ℕ, true, false, List, [], ◌∷◌, Some, None, map}
 use Rattle.finite_maps.specs.Map.{get, insert, keep, remove, entries, empty}
 use Rattle.statement_evaluation.specs.Effect.{effect}
 use Rattle.row_tables.specs.Overlay.{lay}
@@ -7,14 +7,16 @@ use Rattle.bound_specs.specs.Spec.{Spec}
 use Rattle.machine_model.specs.Start.{Started, start}
 use Rattle.machine_model.specs.World.{send_all, session_at}
 use Rattle.events.specs.declared.event.Event.TheVariants.{Row as RowEvent, Rows, Updated}
+use Rattle.bound_statements.specs.Levels.{at_level}
+use Rattle.bound_statements.specs.declared.statement.Level.TheVariants.{Serializable, Committed}
 use Rattle.bound_statements.specs.declared.statement.Output.TheVariants.{Columns}
 use Rattle.bound_statements.specs.declared.statement.Bound.{Bound}
 use Rattle.bound_statements.specs.declared.statement.Bound.TheVariants.{Select, Begin, Commit, Lock, SetVariable}
 use Rattle.lock_modes.specs.declared.mode.Mode.TheVariants.{Share}
 use Rattle.machine_model.specs.declared.status.Status.TheVariants.{Outside, InBlock, Broken}
-use Rattle.machine_model.proofs.Worked.{number, id_is, step, two_rows, adds, sets, in_blocks, all_rows, shares}
+use Rattle.machine_model.proofs.Worked.{number, id_is, step, two_rows, adds, sets, in_blocks, all_rows, shares, level_row, reads as plain}
 use Rattle.serial_history.specs.Reading.{Reading, read}
-use Rattle.serial_history.specs.Serial.{Did, Transaction, History, send_all_told, start_told, after_setups}
+use Rattle.serial_history.specs.Serial.{Did, Transaction, locked_commit, History, send_all_told, start_told, after_setups}
 
 -- the history of a line of the spec, and the world behind it
 abbrev history : Spec → List ℕ → History
@@ -88,7 +90,7 @@ two_orders_commits = refl
 
 -- before the first commits: one has its work open, the other's is dropped and its block is broken
 two_orders_read : readings two_orders (0 ∷ 3 ∷ 1 ∷ 4 ∷ []) (0 ∷ 1 ∷ [])
-    ≡ record { status = InBlock; pending = Updated 1 ∷ Updated 1 ∷ []; ended = [] }
+    ≡ record { status = InBlock Serializable; pending = Updated 1 ∷ Updated 1 ∷ []; ended = [] }
     ∷ record { status = Broken; pending = []; ended = record { is_committed = false; events = Updated 1 ∷ [] } ∷ [] } ∷ []
 unfolding get insert keep remove entries empty effect lay
 two_orders_read = refl
@@ -102,7 +104,7 @@ three_row =
       steps = step 0 (reads 1) ∷ step 0 all_rows ∷ step 1 all_rows ∷ step 1 Commit ∷ step 2 (sets 2 5) ∷ [];
       setups = two_rows ∷ [];
       lines = [];
-      session_setups = (Begin ∷ []) ∷ (Begin ∷ []) ∷ [] ∷ [];
+      session_setups = (Begin None ∷ []) ∷ (Begin None ∷ []) ∷ [] ∷ [];
     }
 
 abbrev first_read : Did
@@ -117,7 +119,7 @@ three_row_commits = refl
 -- and so its transcripts tell it
 three_row_read : readings three_row (0 ∷ 2 ∷ 4 ∷ 3 ∷ 1 ∷ []) (0 ∷ 1 ∷ 2 ∷ [])
     ≡ record {
-      status = InBlock;
+      status = InBlock Serializable;
       pending = RowEvent (number 10 ∷ []) ∷ Rows 1 ∷ RowEvent (number 1 ∷ number 10 ∷ []) ∷ RowEvent (number 2 ∷ number 5 ∷ []) ∷ Rows 2 ∷ [];
       ended = [];
     }
@@ -130,7 +132,7 @@ three_row_read = refl
 
 abbrev setup_row : Spec
 setup_row =
-    record { sessions = 1; steps = step 0 Commit ∷ []; setups = two_rows ∷ []; lines = []; session_setups = (Begin ∷ reads 1 ∷ []) ∷ [] }
+    record { sessions = 1; steps = step 0 Commit ∷ []; setups = two_rows ∷ []; lines = []; session_setups = (Begin None ∷ reads 1 ∷ []) ∷ [] }
 
 setup_row_commits : commits setup_row (0 ∷ []) ≡ record { session = 0; work = one_read 1 10 ∷ [] } ∷ []
 unfolding get insert keep remove entries empty effect lay
@@ -144,7 +146,7 @@ setup_row_read = refl
 -- ---- a block that only locks a table and sets a variable commits nothing
 
 abbrev idle_row : Spec
-idle_row = record setup_row { steps = step 0 (Lock 0 Share false) ∷ step 0 SetVariable ∷ step 0 Commit ∷ []; session_setups = (Begin ∷ []) ∷ [] }
+idle_row = record setup_row { steps = step 0 (Lock 0 Share false) ∷ step 0 SetVariable ∷ step 0 Commit ∷ []; session_setups = (Begin None ∷ []) ∷ [] }
 
 idle_row_commits : commits idle_row (0 ∷ 1 ∷ 2 ∷ []) ≡ []
 unfolding get insert keep remove entries empty effect lay
@@ -153,3 +155,29 @@ idle_row_commits = refl
 idle_row_read : readings idle_row (0 ∷ 1 ∷ 2 ∷ []) (0 ∷ []) ≡ record { status = Outside; pending = []; ended = [] } ∷ []
 unfolding get insert keep remove entries empty effect lay
 idle_row_read = refl
+
+-- what was read and written of the row with key 1
+abbrev read_of : ℕ → Did
+read_of v = record { statement = plain; events = RowEvent (number v ∷ []) ∷ Rows 1 ∷ [] }
+
+abbrev set_to : ℕ → Did
+set_to v = record { statement = sets 1 v; events = Updated 1 ∷ [] }
+
+-- ---- READ COMMITTED: both read, then both write, and an update is lost
+
+lost_commits : commits (level_row Committed) (0 ∷ 3 ∷ 1 ∷ 4 ∷ 2 ∷ 5 ∷ [])
+    ≡ record { session = 0; work = read_of 10 ∷ set_to 11 ∷ [] } ∷ record { session = 1; work = read_of 10 ∷ set_to 12 ∷ [] } ∷ []
+unfolding get insert keep remove entries empty effect lay
+lost_commits = refl
+
+-- without what they read they are a serial run
+lost_part : map locked_commit (commits (level_row Committed) (0 ∷ 3 ∷ 1 ∷ 4 ∷ 2 ∷ 5 ∷ []))
+    ≡ record { session = 0; work = set_to 11 ∷ [] } ∷ record { session = 1; work = set_to 12 ∷ [] } ∷ []
+unfolding get insert keep remove entries empty effect lay
+lost_part = refl
+
+-- a block at SERIALIZABLE beside one at READ COMMITTED keeps what it read
+kept_part : map locked_commit (commits (level_row Serializable) (0 ∷ 3 ∷ 4 ∷ 5 ∷ 1 ∷ 2 ∷ []))
+    ≡ record { session = 1; work = record (read_of 10) { statement = at_level Serializable plain } ∷ set_to 12 ∷ [] } ∷ record { session = 0; work = set_to 11 ∷ [] } ∷ []
+unfolding get insert keep remove entries empty effect lay
+kept_part = refl

@@ -1,28 +1,44 @@
 -- The laws of histories.
-use Rattle.std.specs.Prelude.{◌≡◌, ℕ, List, ◌++◌}
-use Rattle.bound_specs.specs.Spec.{Spec, Step, IsBound}
+use Rattle.std.specs.Prelude.{◌≡◌, ℕ, List, ◌++◌, get_or, All}
+use Rattle.bound_statements.specs.Levels.{AsksAlways}
+use Rattle.bound_specs.specs.Levels.{AskAlways}
+use Rattle.bound_specs.specs.Spec.{Spec, Step, no_step, IsBound}
 use Rattle.machine_model.specs.Start.{Started, start}
 use Rattle.machine_model.specs.Session.{Session, Task}
 use Rattle.machine_model.specs.World.{World, send_all}
 use Rattle.machine_model.specs.Sound.{Sound}
 use Rattle.lock_modes.specs.Rows.{Rows'}
-use Rattle.serial_history.specs.Serial.{History, Transaction, Told, Shown, after_setups, goes_told, settle_told, send_all_told, first_rows, start_told}
+use Rattle.serial_history.specs.Serial.{History, Transaction, Told, IsWhole, locked_part, Shown, after_setups, goes_told, settle_told, send_all_told, first_rows, start_told}
 use Rattle.serial_history.specs.Reading.{Reading, read, told_in, data_of}
 use Rattle.events.specs.declared.event.Event.{Event}
 use Rattle.machine_model.specs.Laws.{IsOf}
 
--- the commits of a line, run one after another without locks, give their events and leave the line's rows, and the open transactions run
--- again give their events and overlays
+-- at each level: without the selects that asked for no lock the commits of a line, run one after another without locks, give their events and leave the
+-- line's rows, and the open transactions run again give their events and overlays
+abbrev pub LinesHaveHeirs : Type 0
+LinesHaveHeirs =
+    (start : Rows') (steps : List Step) (w : World) (ks : List ℕ) (h : History) → Sound w → ((k : ℕ) → IsOf steps w k) → Told start w (locked_part h)
+    → Told start (send_all steps w ks) (locked_part (send_all_told steps w ks h))
+
+-- from the start of a spec: the same, with the commits of session setups, from the rows after the main setups
+abbrev pub SpecsHaveHeirs : Type 0
+SpecsHaveHeirs =
+    (spec : Spec) (w : World) (ks : List ℕ) → IsBound spec → start spec ≡ Started w
+    → Told (first_rows spec) (send_all spec.steps w ks) (locked_part (send_all_told spec.steps w ks (start_told spec)))
+
+-- where each statement asks for its whole plan, nothing is left out: the commits of a line, run one after another without locks, give their events and
+-- leave the line's rows, and the open transactions run again give their events and overlays
 abbrev pub LinesAreSerial : Type 0
 LinesAreSerial =
-    (start : Rows') (steps : List Step) (w : World) (ks : List ℕ) (h : History) → Sound w → ((k : ℕ) → IsOf steps w k) → Told start w h
+    (start : Rows') (steps : List Step) (w : World) (ks : List ℕ) (h : History) → Sound w → ((k : ℕ) → IsOf steps w k)
+    → ((k : ℕ) → All AsksAlways (get_or steps k no_step).statements) → IsWhole w h → Told start w h
     → Told start (send_all steps w ks) (send_all_told steps w ks h)
 
--- from the start of a spec: the commits of a line, those of session setups included, are a serial run from the rows after the main setups,
--- and the open transactions run again
+-- from the start of a spec, as where levels are not asked for: the commits of a line, those of session setups included, are a serial run from the rows
+-- after the main setups, and the open transactions run again
 abbrev pub SpecsAreSerial : Type 0
 SpecsAreSerial =
-    (spec : Spec) (w : World) (ks : List ℕ) → IsBound spec → start spec ≡ Started w
+    (spec : Spec) (w : World) (ks : List ℕ) → IsBound spec → AskAlways spec → start spec ≡ Started w
     → Told (first_rows spec) (send_all spec.steps w ks) (send_all_told spec.steps w ks (start_told spec))
 
 -- these commits stand first, in their order, and the others come behind them

@@ -3,6 +3,7 @@ use Rattle.std.specs.Prelude.{Bool, true, false, cond, List, [], ◌∷◌, ◌+
 use Rattle.events.specs.declared.event.Event.{Event}
 use Rattle.events.specs.declared.event.Event.TheVariants.{Sent, Row as RowEvent, Rows, Inserted, Updated, Deleted, Began, Committed, RolledBack, Locked, Set, Warned, Failed, Waiting, Resumed, Done, NotSent}
 use Rattle.machine_model.specs.Session.{after_fault}
+use Rattle.bound_statements.specs.declared.statement.Level.TheVariants.{Serializable}
 use Rattle.machine_model.specs.declared.status.Status.{Status}
 use Rattle.machine_model.specs.declared.status.Status.TheVariants.{Outside, InBlock, Broken}
 
@@ -36,7 +37,7 @@ pub record Closed : Type 0 where
   pub is_committed : Bool
   pub events : List Event
 
--- where a session stands: its status, the data events of its open transaction, and what ended, in order
+-- where a session stands: its status, with a block of whatever level as one at SERIALIZABLE, since no level is told; the data events of its open transaction, and what ended, in order
 pub record Reading : Type 0 where
   pub status : Status
   pub pending : List Event
@@ -58,7 +59,7 @@ ends committed status x = record { status = status; pending = []; ended = x.ende
 -- the end of a step ends a transaction that no block holds open
 abbrev pub step_ends : Status → Reading → Reading
 step_ends Outside x = ends true Outside x
-step_ends InBlock x = x
+step_ends (InBlock of) x = x
 step_ends Broken x = x
 
 -- a data event is one of the open transaction
@@ -73,7 +74,7 @@ read_one x (Rows n) = opens (Rows n) x
 read_one x (Inserted n) = opens (Inserted n) x
 read_one x (Updated n) = opens (Updated n) x
 read_one x (Deleted n) = opens (Deleted n) x
-read_one x Began = record { status = InBlock; pending = x.pending; ended = x.ended }
+read_one x Began = record { status = InBlock Serializable; pending = x.pending; ended = x.ended }
 read_one x Committed = ends true Outside x
 read_one x RolledBack = ends false Outside x
 read_one x Locked = x

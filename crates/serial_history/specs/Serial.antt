@@ -1,10 +1,13 @@
 -- The transactions of a line in the order of their commits, and their serial run.
 -- What is told here is computed beside the machine, from the same choices: the machine itself keeps no history.
-use Rattle.std.specs.Prelude.{◌≡◌, ◌≢◌, ℕ, zero, suc, Bool, true, false, cond, ◌==◌, List, [], ◌∷◌, ◌++◌, length, replicate, set, get_or, Some, None}
+use Rattle.std.specs.Prelude.{◌≡◌, ◌≢◌, ℕ, zero, suc, Bool, true, false, cond, ◌==◌, List, [], ◌∷◌, ◌++◌, length, map, replicate, set, get_or, Some, None}
 use Rattle.finite_maps.specs.Map.{empty}
 use Rattle.lock_queues.specs.Locks.{Spot, next_grant, waits_now}
+use Rattle.machine_model.specs.Footprint.{EachDo}
 use Rattle.machine_model.specs.Sound.{HoldsAll}
+use Rattle.bound_statements.specs.Levels.{is_unlocked}
 use Rattle.bound_statements.specs.Plan.{plan}
+use Rattle.bound_statements.specs.declared.statement.Level.TheVariants.{Serializable}
 use Rattle.lock_modes.specs.Rows.{Rows', Write}
 use Rattle.row_tables.specs.Overlay.{Overlay, lay, written}
 use Rattle.statement_evaluation.specs.Effect.{Effect, Gives, Faults, effect}
@@ -52,7 +55,7 @@ is_work (Update t k a c) = true
 is_work (Delete t k c) = true
 is_work (Lock t m n) = false
 is_work SetVariable = false
-is_work Begin = false
+is_work (Begin level) = false
 is_work Commit = false
 is_work Rollback = false
 
@@ -93,23 +96,23 @@ did st (Faults f) t = t
 
 -- the tally after a statement that goes
 abbrev pub tally_by : Status → Kind → Session → Rows' → Bound → Tally → Tally
-tally_by Outside Begins s rows st t = t
-tally_by InBlock Begins s rows st t = t
-tally_by Broken Begins s rows st t = t
+tally_by Outside (Begins level) s rows st t = t
+tally_by (InBlock of) (Begins level) s rows st t = t
+tally_by Broken (Begins level) s rows st t = t
 tally_by Outside Commits s rows st t = ended_well t
-tally_by InBlock Commits s rows st t = ended_well t
+tally_by (InBlock of) Commits s rows st t = ended_well t
 tally_by Broken Commits s rows st t = dropped t
 tally_by Outside RollsBack s rows st t = dropped t
-tally_by InBlock RollsBack s rows st t = dropped t
+tally_by (InBlock of) RollsBack s rows st t = dropped t
 tally_by Broken RollsBack s rows st t = dropped t
 tally_by Outside Works s rows st t = did st (effect st (lay s.overlay rows)) t
-tally_by InBlock Works s rows st t = did st (effect st (lay s.overlay rows)) t
+tally_by (InBlock of) Works s rows st t = did st (effect st (lay s.overlay rows)) t
 tally_by Broken Works s rows st t = t
 
 -- the tally at the end of a step
 abbrev pub tally_end : Status → Tally → Tally
 tally_end Outside t = ended_well t
-tally_end InBlock t = t
+tally_end (InBlock of) t = t
 tally_end Broken t = t
 
 -- the tally after the session has gone
@@ -169,8 +172,8 @@ abbrev pub send_told : List Step → World → ℕ → History → History
 send_told steps w k h =
     let st = get_or steps k no_step in
     let s = note (session_at w st.session) (Sent k) in
-    let v = goes w st.session s (tasks_of st.statements) in
-    elim (waits_now w.waits st.session) [ true ↦ h | false ↦ settle_told (left_to_do v) v (goes_told w st.session s (tasks_of st.statements) h) ]
+    let v = goes w st.session s (tasks_of s.status st.statements) in
+    elim (waits_now w.waits st.session) [ true ↦ h | false ↦ settle_told (left_to_do v) v (goes_told w st.session s (tasks_of s.status st.statements) h) ]
 
 -- the history after a line
 abbrev pub send_all_told : List Step → World → List ℕ → History → History
@@ -189,12 +192,41 @@ abbrev pub SerialRun : Rows' → List Transaction → Rows' → Type 0
 SerialRun rows [] last = rows ≡ last
 SerialRun rows (t ∷ ts) last = (o : Overlay) × Replay rows empty t.work o × SerialRun (lay o rows) ts last
 
+-- ---- what is left out of a serial run at READ COMMITTED
+
+-- the work without the selects that asked for no lock
+abbrev pub locked_work : List Did → List Did
+locked_work [] = []
+locked_work (d ∷ ds) = cond (is_unlocked d.statement) (locked_work ds) (d ∷ locked_work ds)
+
+abbrev pub locked_commit : Transaction → Transaction
+locked_commit t = record { session = t.session; work = locked_work t.work }
+
+-- the history without the selects that asked for no lock
+abbrev pub locked_part : History → History
+locked_part h = record { works = map locked_work h.works; ended = h.ended; commits = map locked_commit h.commits }
+
 -- ---- what a history says of a world
 
 -- the requests of each statement of the work are had
 abbrev pub WorkHeld : Held → List Did → Type 0
 WorkHeld h [] = Unit {0}
 WorkHeld h (d ∷ ds) = HoldsAll h (plan d.statement) × WorkHeld h ds
+
+-- none of the work is a select that asked for no lock
+abbrev pub AllLocked : List Did → Type 0
+AllLocked [] = Unit {0}
+AllLocked (d ∷ ds) = (is_unlocked d.statement ≡ false) × AllLocked ds
+
+abbrev pub CommitsLocked : List Transaction → Type 0
+CommitsLocked [] = Unit {0}
+CommitsLocked (t ∷ ts) = AllLocked t.work × CommitsLocked ts
+
+-- nothing that is done, or is left of a step, is a select that asks for no lock
+pub record IsWhole (w : World) (h : History) : Type 0 where
+  pub rests : (c : ℕ) → EachDo (λ st. is_unlocked st ≡ false) (session_at w c).rest
+  pub works : (c : ℕ) → AllLocked (get_or h.works c [])
+  pub commits : CommitsLocked h.commits
 
 -- what it did in its open transaction gives the same again over the rows as they are
 pub record Repeats (rows : Rows') (s : Session) (work : List Did) : Type 0 where
@@ -219,9 +251,15 @@ abbrev pub closed_of : List Ended → List Closed
 closed_of [] = []
 closed_of (x ∷ xs) = record { is_committed = x.is_committed; events = events_of x.work } ∷ closed_of xs
 
+-- a status as transcripts tell it, of which none tells the level of a block
+abbrev pub untold : Status → Status
+untold Outside = Outside
+untold (InBlock level) = InBlock Serializable
+untold Broken = Broken
+
 -- where a session of this status stands by what it did in its open transaction and in those that ended
 abbrev pub reading_of : Status → List Did → List Ended → Reading
-reading_of status work ended = record { status = status; pending = events_of work; ended = closed_of ended }
+reading_of status work ended = record { status = untold status; pending = events_of work; ended = closed_of ended }
 
 -- where each session stands by the world and its history
 abbrev pub reading_in : World → History → ℕ → Reading
@@ -266,7 +304,7 @@ no_history n = record { works = replicate n []; ended = replicate n []; commits 
 abbrev pub session_setups_told : ℕ → World → List (List Bound) → History → History
 session_setups_told i w [] h = h
 session_setups_told i w (block ∷ blocks) h =
-    session_setups_told (suc i) (forgotten (after_setup w i block) i) blocks (goes_told w i (session_at w i) (tasks_of block) h)
+    session_setups_told (suc i) (forgotten (after_setup w i block) i) blocks (goes_told w i (session_at w i) (tasks_of (session_at w i).status block) h)
 
 -- the rows after the main setups, with which the serial run begins
 abbrev pub first_rows : Spec → Rows'

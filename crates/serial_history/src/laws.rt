@@ -1,13 +1,24 @@
 //! The laws of histories, each the contract of a function that does nothing.
 
-ghost use Rattle.serial_history.specs.Laws.{CommitsStayInOrder, LinesAreSerial, SpecsAreSerial, HistoriesShow, SpecsShow, ReadingsKeepData};
+ghost use Rattle.serial_history.specs.Laws.{CommitsStayInOrder, LinesAreSerial, LinesHaveHeirs, SpecsAreSerial, SpecsHaveHeirs, HistoriesShow, SpecsShow, ReadingsKeepData};
 
-/// Every line is a serial run of its commits, and its open transactions run again.
+/// Without the selects that asked for no lock, as plain ones at READ COMMITTED do, every line is a serial run of its commits, and its open transactions run
+/// again. A transaction without such a select is whole in it, whatever level the others have.
+pub fn lines_have_heirs()
+    ensures { LinesHaveHeirs }
+{}
+
+/// The same from the start of a spec.
+pub fn specs_have_heirs()
+    ensures { SpecsHaveHeirs }
+{}
+
+/// Where each statement asks for its whole plan, every line is a serial run of its commits, and its open transactions run again.
 pub fn lines_are_serial()
     ensures { LinesAreSerial }
 {}
 
-/// From the start of a spec, every line is a serial run of its commits, and its open transactions run again.
+/// From the start of a spec whose statements ask for their whole plans, every line is a serial run of its commits, and its open transactions run again.
 pub fn specs_are_serial()
     ensures { SpecsAreSerial }
 {}

@@ -4,5 +4,6 @@
 mod laws;
 
 pub use laws::{
-    histories_show, lines_are_serial, readings_keep_data, specs_are_serial, specs_show,
+    histories_show, lines_are_serial, lines_have_heirs, readings_keep_data, specs_are_serial,
+    specs_have_heirs, specs_show,
 };

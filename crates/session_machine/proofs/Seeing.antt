@@ -48,14 +48,14 @@ lengths-differ (e ∷ es) (f ∷ fs) h =
 -- the same trace, by equal parts
 pub traces-at : (m n i : ℕ) (cs ds : List Change) (x y : Standing) (sts uts : List Bound) (p q : Point) (trace : Trace) → m ≡ n → cs ≡ ds → x ≡ y → sts ≡ uts
     → p ≡ q
-    → Traces m i cs x (tasks_from (drop p.statement sts) p.request) trace
-    → Traces n i ds y (tasks_from (drop q.statement uts) q.request) trace
+    → Traces m i cs x (tasks_from x.own.status (drop p.statement sts) p.request) trace
+    → Traces n i ds y (tasks_from y.own.status (drop q.statement uts) q.request) trace
 traces-at m n i cs ds x y sts uts p q trace e f g h k traces =
-    subst (λ c. Traces c i ds y (tasks_from (drop q.statement uts) q.request) trace) e
-    (subst (λ c. Traces m i c y (tasks_from (drop q.statement uts) q.request) trace) f
-    (subst (λ (c : Standing). Traces m i cs c (tasks_from (drop q.statement uts) q.request) trace) g
-    (subst (λ c. Traces m i cs x (tasks_from (drop q.statement c) q.request) trace) h
-    (subst (λ (c : Point). Traces m i cs x (tasks_from (drop c.statement sts) c.request) trace) k traces))))
+    subst (λ c. Traces c i ds y (tasks_from y.own.status (drop q.statement uts) q.request) trace) e
+    (subst (λ c. Traces m i c y (tasks_from y.own.status (drop q.statement uts) q.request) trace) f
+    (subst (λ (c : Standing). Traces m i cs c (tasks_from c.own.status (drop q.statement uts) q.request) trace) g
+    (subst (λ c. Traces m i cs x (tasks_from x.own.status (drop q.statement c) q.request) trace) h
+    (subst (λ (c : Point). Traces m i cs x (tasks_from x.own.status (drop c.statement sts) c.request) trace) k traces))))
 
 -- a moment that tells this is the one that is told
 pub told-is : (m n : ℕ) (x y : Staged) (i : ℕ) (manner : Manner) (step : Option ℕ) (trace : Trace) (es : List Event) (ss : List Still) (moment : Moment) → m ≡ n
@@ -87,13 +87,13 @@ pub resumed-so : (count : ℕ) (steps : List Step) (x y : Staged) (s : Spot) (m 
     → (member_at x i).rest ≡ Some rest
     → IsTold count x y i IsResumed (last_sent None (member_at x i).state.transcript) (had_of (wait_of x.locks i))
     (standing x.store (grant x.locks s) (record { status = (member_at x i).state.status; transcript = Resumed ∷ [] }))
-    (tasks_from (drop rest.point.statement (statements_of steps rest.step)) rest.point.request) m
+    (tasks_from (member_at x i).state.status (drop rest.point.statement (statements_of steps rest.step)) rest.point.request) m
     → IsResumedSo count steps x y s m
 resumed-so count steps x y s m i rest same =
     subst (λ j. (member_at x j).rest ≡ Some rest
     → IsTold count x y j IsResumed (last_sent None (member_at x j).state.transcript) (had_of (wait_of x.locks j))
     (standing x.store (grant x.locks s) (record { status = (member_at x j).state.status; transcript = Resumed ∷ [] }))
-    (tasks_from (drop rest.point.statement (statements_of steps rest.step)) rest.point.request) m
+    (tasks_from (member_at x j).state.status (drop rest.point.statement (statements_of steps rest.step)) rest.point.request) m
     → IsResumedSo count steps x y s m) same (λ there told. record { rest = rest; there = there; told = told })
 
 -- a wait that is granted leaves all below the count

@@ -1,5 +1,6 @@
 -- What each move of a session comes to in locks and refusals: a request, a statement, the end of a step.
-use Rattle.std.proofs.Common.{◌≡◌, refl, sym, ap, ◌∙◌, subst, ℕ, ◌+◌, ◌<◌, Bool, true, false, List, [], ◌∷◌, ◌++◌, Some, None, drop, append_assoc, append-nil}
+use Rattle.std.specs.List.{slice_get}
+use Rattle.std.proofs.Common.{Option, ◌≡◌, refl, sym, ap, ◌∙◌, subst, ℕ, ◌+◌, ◌<◌, Bool, true, false, List, [], ◌∷◌, ◌++◌, Some, None, drop, append_assoc, append-nil}
 use Rattle.finite_maps.specs.Map.{get, empty, get-insert, same_key-refl}
 use Rattle.lock_modes.specs.declared.mode.Mode.{Mode}
 use Rattle.lock_modes.specs.declared.resource.Resource.{Resource}
@@ -10,14 +11,17 @@ use Rattle.lock_queues.specs.LockTable.{Locks, holding_order, look_in, taken, qu
 use Rattle.lock_queues.specs.Reasons.{want_at, last_spot}
 use Rattle.lock_queues.specs.Rings.{ring_told}
 use Rattle.lock_queues.proofs.Slices.{get-slice}
-use Rattle.bound_statements.specs.Plan.{plan, nowait}
+use Rattle.bound_statements.specs.Levels.{is_unlocked, asked}
+use Rattle.bound_statements.specs.Plan.{Request, plan, nowait}
 use Rattle.bound_statements.specs.declared.statement.Bound.{Bound}
 use Rattle.row_tables.specs.Layers.{Layers}
 use Rattle.events.specs.declared.event.Fault.{Fault}
+use Rattle.machine_model.specs.declared.status.Status.{Status}
 use Rattle.machine_model.specs.declared.status.Status.TheVariants.{Outside}
 use Rattle.machine_model.specs.declared.reply.Reply.{Reply}
 use Rattle.machine_model.specs.declared.reply.Reply.TheVariants.{Had as IsHad, Waits, Refused}
-use Rattle.machine_model.specs.Session.{Session, Task, Ask, Do, Performed, Goes, Fails, kind, asks, tasks_of}
+use Rattle.machine_model.specs.Session.{Session, Task, Ask, Do, Performed, Goes, Fails, kind, asks, behind, in_status, tasks_of}
+use Rattle.machine_model.proofs.Levels.{kind-in_status, nowait-in_status}
 use Rattle.machine_model.specs.Go.{Scene, is_broken, replied, reply_in, taking, look_with, waiting_with}
 use Rattle.line_moments.specs.Moments.{go_changes, go_refusal, let_go, did_changes, end_changes, refusal}
 use Rattle.line_moments.specs.declared.moment.Change.{Change}
@@ -30,7 +34,8 @@ use Rattle.session_machine.specs.Tracing.{trace_in, IsSceneOf, Traces, TracesOn,
 use Rattle.session_steps.proofs.Going.{look-now, ring-is, reply-is}
 use Rattle.session_steps.proofs.Moves.{still-scene}
 use Rattle.session_steps.proofs.States.{session-taken, same-taken}
-use Rattle.session_steps.proofs.Steps.{tasks_from-start}
+use Rattle.session_steps.proofs.Requests.{asked-plan}
+use Rattle.session_steps.proofs.Steps.{tasks_from-start, does-at, fails-at}
 
 -- ---- moves in turn
 
@@ -169,39 +174,62 @@ pub ends-traces : (count i : ℕ) (cs : List Change) (x : Standing)
     → Traces count i cs x [] (record { changes = cs ++ end_changes x.own.status (slice i x.locks.held); refusal = None })
 ends-traces count i cs x = λ e scene. refl
 
+-- ---- a statement at the level of its transaction
+
+-- what is asked for is the plan of the statement as it stands
+pub asked-at : (x : Status) (st : Bound) (n : ℕ) (o : Option Request) → is_unlocked (in_status x st) ≡ false → slice_get (plan st) n ≡ o
+    → slice_get (asked (in_status x st)) n ≡ o
+asked-at x st n o locked is = subst (λ qs. slice_get qs n ≡ o) (sym (asked-plan x st locked)) is
+
+pub reply-at : (x : Status) (st : Bound) (t : Locks) (i : ℕ) (r : Resource) (m : Mode) (a : Reply) → IsReply t i r m (nowait st) a
+    → IsReply t i r m (nowait (in_status x st)) a
+reply-at x st t i r m a is = subst (λ b. IsReply t i r m b a) (sym (nowait-in_status x st)) is
+
 -- ---- one statement after another
 
-module _ (count i : ℕ) (bs : List Change) (x y : Standing) (first : List Task) (sts : List Bound) (k n : ℕ) (st : Bound) (cs : List Change) (here : drop k sts
-    ≡ st ∷ drop (k + 1) sts) (came : GoesOnTo i x first y (tasks_from (drop k sts) n)) (traced : TracesOn count i bs x first cs y (tasks_from (drop k sts) n))
-  where
-    traced-here : TracesOn count i bs x first cs y (asks (nowait st) (drop n (plan st)) (Do st ∷ tasks_of (drop (k + 1) sts)))
-    traced-here = subst (λ ss. TracesOn count i bs x first cs y (tasks_from ss n)) here traced
+module _ (count i : ℕ) (bs : List Change) (x y : Standing) (first : List Task) (b : Status) (sts : List Bound) (k n : ℕ) (st : Bound) (cs : List Change)
+    (here : drop k sts ≡ st ∷ drop (k + 1) sts) (came : GoesOnTo i x first y (tasks_from b (drop k sts) n))
+    (traced : TracesOn count i bs x first cs y (tasks_from b (drop k sts) n)) where
+  abbrev q : Bound
+  q = in_status b st
 
-    -- the session stops at a request
-    pub stops-trace : (trace : Trace) → ((ts : List Task) → Traces count i cs y (asks (nowait st) (drop n (plan st)) ts) trace) → Traces count i bs x first trace
-    stops-trace trace stops = traces-on-stop count i bs cs x y first (asks (nowait st) (drop n (plan st)) (Do st ∷ tasks_of (drop (k + 1) sts))) trace came.others came.waits traced-here
-        (stops (Do st ∷ tasks_of (drop (k + 1) sts)))
+  abbrev left : List Task
+  left = tasks_of (behind b st) (drop (k + 1) sts)
 
-    module _ (z : Standing) (ds : List Change) (goes : (ts : List Task) → GoesOnTo i y (asks (nowait st) (drop n (plan st)) ts) z ts)
-        (had : (ts : List Task) → TracesOn count i cs y (asks (nowait st) (drop n (plan st)) ts) ds z ts) where
-      asked-traced : TracesOn count i bs x first ds z (Do st ∷ tasks_of (drop (k + 1) sts))
-      asked-traced = traces-on-on count i bs cs ds x y z first (asks (nowait st) (drop n (plan st)) (Do st ∷ tasks_of (drop (k + 1) sts)))
-          (Do st ∷ tasks_of (drop (k + 1) sts)) came.others came.waits traced-here (had (Do st ∷ tasks_of (drop (k + 1) sts)))
+  traced-here : TracesOn count i bs x first cs y (asks (nowait q) (drop n (asked q)) (Do q ∷ left))
+  traced-here = subst (λ ss. TracesOn count i bs x first cs y (tasks_from b ss n)) here traced
 
-      others : SameOthers i x.layers z.layers x.locks z.locks
-      others = Rattle.session_steps.proofs.States.same-trans i x.layers y.layers z.layers x.locks y.locks z.locks came.others (goes []).others
+  -- the session stops at a request
+  pub stops-trace : (trace : Trace) → ((ts : List Task) → Traces count i cs y (asks (nowait q) (drop n (asked q)) ts) trace) → Traces count i bs x first trace
+  stops-trace trace stops = traces-on-stop count i bs cs x y first (asks (nowait q) (drop n (asked q)) (Do q ∷ left)) trace came.others came.waits traced-here
+      (stops (Do q ∷ left))
 
-      waits : z.locks.waits ≡ x.locks.waits
-      waits = (goes []).waits ∙ came.waits
+  module _ (z : Standing) (ds : List Change) (goes : (ts : List Task) → GoesOnTo i y (asks (nowait q) (drop n (asked q)) ts) z ts)
+      (had : (ts : List Task) → TracesOn count i cs y (asks (nowait q) (drop n (asked q)) ts) ds z ts) where
+    asked-traced : TracesOn count i bs x first ds z (Do q ∷ left)
+    asked-traced = traces-on-on count i bs cs ds x y z first (asks (nowait q) (drop n (asked q)) (Do q ∷ left)) (Do q ∷ left) came.others came.waits traced-here
+        (had (Do q ∷ left))
 
-      pub done-trace-then : (w : Standing) → DoesTo i z st w
-          → TracesOn count i bs x first (ds ++ did_changes (kind st) (slice i z.locks.held)) w (tasks_from (drop (k + 1) sts) 0)
-      done-trace-then w does = subst (TracesOn count i bs x first (ds ++ did_changes (kind st) (slice i z.locks.held)) w)
-          (sym (tasks_from-start (drop (k + 1) sts)))
-          (traces-on-on count i bs ds (ds ++ did_changes (kind st) (slice i z.locks.held)) x z w first (Do st ∷ tasks_of (drop (k + 1) sts))
-          (tasks_of (drop (k + 1) sts)) others waits asked-traced (does-traces count i ds z w st (tasks_of (drop (k + 1) sts)) does))
+    others : SameOthers i x.layers z.layers x.locks z.locks
+    others = Rattle.session_steps.proofs.States.same-trans i x.layers y.layers z.layers x.locks y.locks z.locks came.others (goes []).others
 
-      pub fails-trace-then : (w : Standing) (f : Fault) → FailsBy i z st f w
-          → Traces count i bs x first (record { changes = ds ++ let_go (slice i z.locks.held); refusal = None })
-      fails-trace-then w f by = traces-on-stop count i bs ds x z first (Do st ∷ tasks_of (drop (k + 1) sts)) (record { changes = ds ++ let_go (slice i z.locks.held); refusal = None }) others waits asked-traced
-          (fails-traces count i ds z w st f (tasks_of (drop (k + 1) sts)) by)
+    waits : z.locks.waits ≡ x.locks.waits
+    waits = (goes []).waits ∙ came.waits
+
+    -- what a statement lets go does not hang on its level
+    goes-traced : (w : Standing) → DoesTo i z st w
+        → TracesOn count i ds z (Do q ∷ left) (ds ++ did_changes (kind st) (slice i z.locks.held)) w left
+    goes-traced w does = subst (λ e. TracesOn count i ds z (Do q ∷ left) (ds ++ did_changes e (slice i z.locks.held)) w left) (kind-in_status b st)
+        (does-traces count i ds z w q left (does-at i b z w st does))
+
+    pub done-trace-then : (w : Standing) → DoesTo i z st w → w.own.status ≡ behind b st
+        → TracesOn count i bs x first (ds ++ did_changes (kind st) (slice i z.locks.held)) w (tasks_from w.own.status (drop (k + 1) sts) 0)
+    done-trace-then w does is = subst (TracesOn count i bs x first (ds ++ did_changes (kind st) (slice i z.locks.held)) w)
+        (sym (tasks_from-start w.own.status (drop (k + 1) sts) ∙ ap (λ c. tasks_of c (drop (k + 1) sts)) is))
+        (traces-on-on count i bs ds (ds ++ did_changes (kind st) (slice i z.locks.held)) x z w first (Do q ∷ left) left others waits asked-traced
+        (goes-traced w does))
+
+    pub fails-trace-then : (w : Standing) (f : Fault) → FailsBy i z st f w
+        → Traces count i bs x first (record { changes = ds ++ let_go (slice i z.locks.held); refusal = None })
+    fails-trace-then w f by = traces-on-stop count i bs ds x z first (Do q ∷ left) (record { changes = ds ++ let_go (slice i z.locks.held); refusal = None })
+        others waits asked-traced (fails-traces count i ds z w q f left (fails-at i b z w st f by))

@@ -110,7 +110,8 @@ sent-skips steps w k waits = ap (λ b. let v : World =
     elim b [
       | true ↦ noted w (get_or steps k no_step).session (NotSent k)
       | false ↦ settle
-          (goes w (get_or steps k no_step).session (note (session_at w (get_or steps k no_step).session) (Sent k)) (tasks_of (get_or steps k no_step).statements))
+          (goes w (get_or steps k no_step).session (note (session_at w (get_or steps k no_step).session) (Sent k))
+          (tasks_of (session_at w (get_or steps k no_step).session).status (get_or steps k no_step).statements))
     ] in v) waits
 
 pub skipped-is : (steps : List Step) (n : ℕ) (x y : Staged) (k i : ℕ) → IsStage steps x → IsStage steps y → length x.members ≡ n
@@ -159,8 +160,8 @@ module _ (steps : List Step) (n : ℕ) (x y : Staged) (sx : IsStage steps x) (sy
 
   module _ (k i : ℕ) (lt : i < n) (is : i ≡ (get_or steps k no_step).session) (idle : waits_now x.locks.waits i ≡ false)
       (started : HasStarted steps k x y) where
-    at-rest : rest_of steps (member_at x i).rest ≡ []
-    at-rest = ap (rest_of steps) (none-rests (member_at x i).rest (sx.resting i (in-x i lt) ∙ idle))
+    at-rest : rest_of steps (member_at x i).state.status (member_at x i).rest ≡ []
+    at-rest = ap (rest_of steps (member_at x i).state.status) (none-rests (member_at x i).rest (sx.resting i (in-x i lt) ∙ idle))
 
     standing-is : session_in i (sent_standing x i k) ≡ told_only (session_at w i) (Sent k)
     standing-is =
@@ -186,10 +187,16 @@ module _ (steps : List Step) (n : ℕ) (x y : Staged) (sx : IsStage steps x) (sy
         ≡ (session_at w c).transcript ++ cond (c == c) (events_by steps w (Sends k)) [])
         (sym is)
         (goes-grows w (get_or steps k no_step).session (told_only (session_at w (get_or steps k no_step).session) (Sent k))
-        (tasks_of (get_or steps k no_step).statements) (subst (λ c. c < length w.sessions) is (subst (λ m. i < m) (sym many) lt))
+        (tasks_of (session_at w (get_or steps k no_step).session).status (get_or steps k no_step).statements) (subst (λ c. c < length w.sessions) is (subst (λ m. i < m) (sym many) lt))
         (get_or steps k no_step).session))
 
-    pub sent-is : (m : Moment) → IsTold n x y i IsSent (Some k) [] (sent_standing x i k) (tasks_from (drop 0 (statements_of steps k)) 0) m
+    sent-tasks : tasks_from (member_at x i).state.status (drop 0 (statements_of steps k)) 0
+        ≡ tasks_of (session_at w (get_or steps k no_step).session).status (statements_of steps k)
+    sent-tasks = tasks_from-start (member_at x i).state.status (statements_of steps k)
+        ∙ ap (λ (s : Session). tasks_of s.status (statements_of steps k)) (standing-is ∙ ap (λ c. told_only (session_at w c) (Sent k)) is)
+
+    pub sent-is : (m : Moment) → IsTold n x y i IsSent (Some k) [] (sent_standing x i k)
+        (tasks_from (member_at x i).state.status (drop 0 (statements_of steps k)) 0) m
         → m ≡ moment_in steps x (Sends k)
     sent-is m told =
         let traced = told.traces (scene_of w) scene-here in
@@ -197,10 +204,10 @@ module _ (steps : List Step) (n : ℕ) (x y : Staged) (sx : IsStage steps x) (sy
         ∙ moment-is steps n x y sx sy cx cy (Sends k) i (Some k) told.trace lt started.world is refl (since-is i x y (events_by steps w (Sends k)) sent-events)
         (sym (ap (λ (t : Trace). t.changes) traced)
         ∙ (λ j. go_changes (scene_of w) (is j) ((standing-is ∙ ap (λ c. told_only (session_at w c) (Sent k)) is) j) x.store.committed
-        (tasks_from-start (statements_of steps k) j)))
+        (sent-tasks j)))
         (sym (ap (λ (t : Trace). t.refusal) traced)
         ∙ (λ j. go_refusal (scene_of w) (is j) ((standing-is ∙ ap (λ c. told_only (session_at w c) (Sent k)) is) j) x.store.committed
-        (tasks_from-start (statements_of steps k) j)))
+        (sent-tasks j)))
 
   -- ---- a wait that is granted
 
@@ -251,8 +258,8 @@ module _ (steps : List Step) (n : ℕ) (x y : Staged) (sx : IsStage steps x) (sy
     resumed-is m so =
         let told = so.told in
         let traced = told.traces (scene_of (without w s)) scene-there in
-        let tasks : tasks_from (drop so.rest.point.statement (statements_of steps so.rest.step)) so.rest.point.request ≡ (session_at w i).rest =
-        sym (ap (λ (u : Session). u.rest) here ∙ ap (rest_of steps) so.there) in
+        let tasks : tasks_from (member_at x i).state.status (drop so.rest.point.statement (statements_of steps so.rest.step)) so.rest.point.request ≡ (session_at w i).rest =
+        sym (ap (λ (u : Session). u.rest) here ∙ ap (rest_of steps (member_at x i).state.status) so.there) in
         told.is
         ∙ moment-is steps n x y sx sy cx cy (GoesOn s) i (last_sent None (member_at x i).state.transcript) told.trace known world refl
         (ap (λ (u : Session). last_sent None u.transcript) (sym here))

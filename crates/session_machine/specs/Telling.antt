@@ -84,7 +84,7 @@ pub record IsResumedSo (count : ℕ) (steps : List Step) (x y : Staged) (s : Spo
   pub rest : Rest
   pub there : (member_at x s.wait.session).rest ≡ Some rest
   pub told : IsTold count x y s.wait.session IsResumed (last_sent None (member_at x s.wait.session).state.transcript) (had_of (wait_of x.locks s.wait.session))
-      (resumed_standing x s) (tasks_from (drop rest.point.statement (statements_of steps rest.step)) rest.point.request) m
+      (resumed_standing x s) (tasks_from (member_at x s.wait.session).state.status (drop rest.point.statement (statements_of steps rest.step)) rest.point.request) m
 
 -- the moment of a going from the world of the stage
 abbrev pub moment_in : List Step → Staged → Cause → Moment

@@ -8,7 +8,8 @@ use Rattle.lock_queues.specs.LockTable.{Locks, look_in, queued, slice}
 use Rattle.lock_queues.specs.Reasons.{want_at, last_spot}
 use Rattle.lock_queues.specs.Rings.{ring_told}
 use Rattle.row_tables.specs.Layers.{Layers}
-use Rattle.bound_statements.specs.Plan.{plan, nowait}
+use Rattle.bound_statements.specs.Levels.{asked}
+use Rattle.bound_statements.specs.Plan.{nowait}
 use Rattle.bound_statements.specs.declared.statement.Bound.{Bound}
 use Rattle.machine_model.specs.Go.{Scene}
 use Rattle.machine_model.specs.Session.{Session, Task, asks}
@@ -61,14 +62,14 @@ abbrev pub refusal_at : ℕ → Locks → ℕ → Bool → Resource → Mode →
 refusal_at count t i true r m = Wants (want_at count (look_in t) (last_spot t.waits i r m))
 refusal_at count t i false r m = Closes (ring_told count (look_in t) (queued t i r m).waits i)
 
--- ---- what the call for the requests of a statement promises
+-- ---- what the call for the requests of a statement promises; the statement is at the level of its transaction
 
 -- all are had: the session goes on with the tasks behind them
 pub record AreHad (count i : ℕ) (t : Locks) (s : SessionState) (st : Bound) (n : ℕ) (u : Locks) (cs : List Change) (trace : Trace) : Type 0 where
-  pub goes : (l : Layers) (ts : List Task) → GoesOnTo i (standing l t s) (asks (nowait st) (drop n (plan st)) ts) (standing l u s) ts
+  pub goes : (l : Layers) (ts : List Task) → GoesOnTo i (standing l t s) (asks (nowait st) (drop n (asked st)) ts) (standing l u s) ts
   pub traces : (l : Layers) (ts : List Task)
-      → TracesOn count i cs (standing l t s) (asks (nowait st) (drop n (plan st)) ts) trace.changes (standing l u s) ts
-  pub holds : HoldsAll (slice i u.held) (plan st)
+      → TracesOn count i cs (standing l t s) (asks (nowait st) (drop n (asked st)) ts) trace.changes (standing l u s) ts
+  pub holds : HoldsAll (slice i u.held) (asked st)
   pub below : IsBelow count u
   pub whole : trace.refusal ≡ None
 
@@ -76,4 +77,4 @@ pub record AreHad (count i : ℕ) (t : Locks) (s : SessionState) (st : Bound) (n
 abbrev pub TracesAsking : ℕ → ℕ → Locks → SessionState → Bound → ℕ → Locks → List Change → Trace → Course → Type 0
 TracesAsking count i t s st n u cs trace AllHad = AreHad count i t s st n u cs trace
 TracesAsking count i t s st n u cs trace Stops =
-    (l : Layers) (ts : List Task) → Traces count i cs (standing l t s) (asks (nowait st) (drop n (plan st)) ts) trace
+    (l : Layers) (ts : List Task) → Traces count i cs (standing l t s) (asks (nowait st) (drop n (asked st)) ts) trace

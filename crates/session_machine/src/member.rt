@@ -4,7 +4,7 @@ ghost use Rattle.std.specs.Prelude.{◌≡◌, ◌++◌, [], IfOk, OnOk};
 ghost use Rattle.std.specs.List.{list_any};
 ghost use Rattle.row_tables.specs.Layers.{sight};
 ghost use Rattle.statement_evaluation.specs.Effect.{effect};
-ghost use Rattle.statement_execution.specs.Run.{SeesAlone, events_of, fault_of, left_by};
+ghost use Rattle.statement_execution.specs.Run.{MayLook, events_of, fault_of, left_by};
 ghost use Rattle.machine_model.specs.Start.{is_failure};
 ghost use Rattle.session_steps.specs.Stage.{no_member, note_member};
 
@@ -125,7 +125,7 @@ impl Member {
         session: u8,
         store: &mut Store,
     ) -> Result<Option<Fault>, AllocError>
-        requires { SeesAlone session statement.now store.old }
+        requires { MayLook session statement.now store.old }
         ensures fault { IfOk result (λ fault. fault ≡ fault_of (effect statement.now (sight session store.old))) }
         ensures left { OnOk result (store.new ≡ left_by session (effect statement.now (sight session store.old)) store.old) }
         ensures told { OnOk result (self.new ≡ record {

@@ -121,7 +121,7 @@ impl SharedStage {
         requires sender { session ≡ (get_or spec.now.run.steps step no_step).session }
         requires idle { locks.waits_now before.locks.waits session ≡ false }
         ensures { IfOk result (telling.IsTold (suc spec.now.run.sessions) (staged_of before) (staged_of self.now) session Manner.IsSent (Some step) []
-            (telling.sent_standing (staged_of before) session step) (tasks_from (drop 0 (statements_of spec.now.run.steps step)) 0)) }
+            (telling.sent_standing (staged_of before) session step) (tasks_from (member_at (staged_of before) session).state.status (drop 0 (statements_of spec.now.run.steps step)) 0)) }
     {
         let count = spec.sessions() + 1;
         let still = still_of(alloc, &before.locks, &self.locks, session, count)?;

@@ -1,6 +1,7 @@
 //! Whole runs of a spec.
 
-ghost use Rattle.std.specs.Prelude.{◌≡◌, ◌<◌, ℕ, Some, false, All, IfOk, IfErr, OnOk, length};
+ghost use Rattle.std.specs.Prelude.{◌≡◌, ◌<◌, ℕ, Some, None, false, All, IfOk, IfErr, OnOk, length};
+ghost use Rattle.bound_specs.specs.Levels.{AskAlways};
 ghost use Rattle.bound_specs.specs.Spec.{IsBound};
 ghost use Rattle.machine_model.specs.Start.{Start, Started, start};
 ghost use Rattle.machine_model.specs.World.{send_all};
@@ -21,10 +22,12 @@ use transcripts::Outcome;
 pub fn run_one(alloc: Global, spec: &Spec, line: &Line) -> Result<Outcome, RunError>
     requires { All (λ k. k < length spec.now.run.steps) line.now.items }
     ensures ran { IfOk result (λ outcome. outcome_of_line spec.now.run line.now.items ≡ Some outcome) }
-    ensures serial { IfOk result (IsSerial spec.now.run line.now.items) }
+    // Where levels are not asked for.
+    ensures serial { IfOk result (λ outcome. spec.now.asked ≡ None → IsSerial spec.now.run line.now.items outcome) }
     ensures own { IfOk result (IsOutcomeOf spec.now.run) }
     ensures refused { IfErr result (λ error. IsNotRunBy error (start spec.now.run)) }
 {
+    spec.known();
     match World::start(alloc, spec) {
         Ok(mut world) => run_line(&mut world, line.as_slice()),
         Err(error) => Err(not_started(error)),
@@ -37,8 +40,9 @@ fn run_line(world: &mut World<'_>, line: &[u8]) -> Result<Outcome, RunError>
     requires whole { world.old.spent ≡ false }
     requires started { start world.old.file.run ≡ Started world.old.world }
     requires bound { IsBound world.old.file.run }
+    requires always { world.old.file.asked ≡ None → AskAlways world.old.file.run }
     ensures ran { IfOk result (λ outcome. outcome_of_line world.old.file.run line.now ≡ Some outcome) }
-    ensures serial { IfOk result (IsSerial world.old.file.run line.now) }
+    ensures serial { IfOk result (λ outcome. world.old.file.asked ≡ None → IsSerial world.old.file.run line.now outcome) }
     ensures own { IfOk result (IsOutcomeOf world.old.file.run) }
     ensures refused { IfErr result (λ error. IsNotRunBy error (start world.old.file.run)) }
 {

@@ -8,11 +8,12 @@ ghost use Rattle.lock_modes.specs.Resource.{resource_at};
 ghost use Rattle.lock_queues.specs.Laws.{IsBelow};
 ghost use Rattle.lock_queues.specs.Locks.{waits_now, closes_ring};
 ghost use Rattle.lock_queues.specs.LockTable.{look_in, queued, slice};
-ghost use Rattle.machine_model.specs.Session.{Held, kind};
+ghost use Rattle.bound_statements.specs.Levels.{is_unlocked};
+ghost use Rattle.machine_model.specs.Session.{Held, in_status, kind};
 ghost use Rattle.session_machine.specs.SharedStage.{staged_of};
 ghost use Rattle.session_machine.specs.Tracing.{Traces, TracesAsking, had_by, refusal_at};
 ghost use Rattle.session_steps.specs.Going.{tasks_from, IsToAsk, IsToGo};
-ghost use Rattle.session_steps.specs.Stage.{standing_at};
+ghost use Rattle.session_steps.specs.Stage.{member_at, standing_at};
 ghost use Rattle.session_steps.specs.State.{SessionState};
 
 use crate::asking::ask_one;
@@ -22,7 +23,7 @@ use line_moments::{Change, Refusal};
 use lock_modes::{Mode, Place, Resource};
 use lock_queues::LockTable;
 use machine_model::{Reply, Status};
-use session_steps::{Point, Stage, perform};
+use session_steps::{Point, Stage, is_unlocked_in, perform};
 use sqlite_items::Items;
 use std::alloc::{AllocError, Global};
 
@@ -125,7 +126,7 @@ fn end_changes(alloc: Global, status: Status, gone: Items<Change>) -> Items<Chan
 {
     match status {
         Status::Outside => gone,
-        Status::InBlock | Status::Broken => Items::new(alloc),
+        Status::InBlock(_) | Status::Broken => Items::new(alloc),
     }
 }
 
@@ -154,7 +155,7 @@ fn refusal_of(
 }
 
 /// Asks for the locks of a statement in the order of its plan, from the request with this number on, until one is not had. Tells those that are had, and
-/// where one is refused, why and what is let go.
+/// where one is refused, why and what is let go. A plain select at READ COMMITTED asks for none.
 fn trace_asks(
     alloc: Global,
     count: u8,
@@ -167,12 +168,41 @@ fn trace_asks(
 ) -> Result<Course, AllocError>
     requires keys { HasKeys statement.now }
     requires short { IsShort statement.now }
-    requires ready { IsToAsk session locks.old statement.now first }
+    requires ready { IsToAsk session locks.old (in_status status statement.now) first }
     requires known { session < count }
     requires below { IsBelow count locks.old }
     requires whole { trace.old.refusal ≡ None }
     ensures { IfOk result (λ course. (s : SessionState) → s.status ≡ status
-        → TracesAsking count session locks.old s statement.now first locks.new trace.old.changes trace.new course) }
+        → TracesAsking count session locks.old s (in_status status statement.now) first locks.new trace.old.changes trace.new course) }
+{
+    if is_unlocked_in(status, statement) {
+        return Ok(Course::AllHad);
+    }
+    trace_each(
+        alloc, count, locks, session, status, statement, first, trace,
+    )
+}
+
+/// The same for a statement that asks for its plan.
+fn trace_each(
+    alloc: Global,
+    count: u8,
+    locks: &mut LockTable,
+    session: u8,
+    status: Status,
+    statement: &Bound,
+    first: u8,
+    trace: &mut Trace,
+) -> Result<Course, AllocError>
+    requires keys { HasKeys statement.now }
+    requires short { IsShort statement.now }
+    requires locked { is_unlocked (in_status status statement.now) ≡ false }
+    requires ready { IsToAsk session locks.old (in_status status statement.now) first }
+    requires known { session < count }
+    requires below { IsBelow count locks.old }
+    requires whole { trace.old.refusal ≡ None }
+    ensures { IfOk result (λ course. (s : SessionState) → s.status ≡ status
+        → TracesAsking count session locks.old s (in_status status statement.now) first locks.new trace.old.changes trace.new course) }
 {
     for number in first..u8::MAX {
         let Some((place, mode)) = lock_plan(statement, number) else {
@@ -210,11 +240,12 @@ pub(crate) fn trace_on(
 ) -> Result<Trace, AllocError>
     requires keys { All HasKeys statements.now }
     requires short { All IsShort statements.now }
-    requires ready { IsToGo session stage.old.store stage.old.locks statements.now from.statement from.request }
+    requires ready { IsToGo session stage.old.store stage.old.locks (member_at (staged_of stage.old) session).state.status statements.now from.statement from.request }
     requires inside { session < length stage.old.members.items }
     requires known { session < count }
     requires below { IsBelow count stage.old.locks }
-    ensures { IfOk result (Traces count session changes (standing_at session (staged_of stage.old)) (tasks_from (drop from.statement statements.now) from.request)) }
+    ensures { IfOk result (Traces count session changes (standing_at session (staged_of stage.old))
+        (tasks_from (member_at (staged_of stage.old) session).state.status (drop from.statement statements.now) from.request)) }
 {
     let mut trace = Trace::of(changes);
     let mut request = from.request;

@@ -78,8 +78,8 @@ failed-is i l t s f = λ k. record {
 
 stops-of : (steps : List Step) (i step : ℕ) (x : Standing) (from : Point) (m : Layers) (u : Locks) (s : SessionState) (stopped : Option Point)
     → GoesUntil i x (statements_of steps step) from m u s stopped
-    → StopsIn i x (tasks_from (drop from.statement (statements_of steps step)) from.request)
-    (record { layers = m; locks = u; own = record { status = s.status; rest = rest_of steps (rest_at step stopped); transcript = s.transcript } })
+    → StopsIn i x (tasks_from x.own.status (drop from.statement (statements_of steps step)) from.request)
+    (record { layers = m; locks = u; own = record { status = s.status; rest = rest_of steps s.status (rest_at step stopped); transcript = s.transcript } })
 stops-of steps i step x from m u s None goes = goes
 stops-of steps i step x from m u s (Some p) goes = goes
 
@@ -100,15 +100,15 @@ pub gone-there : (steps : List Step) (i step : ℕ) (from : Point) (x z y : Stag
     → others i z ≡ others i x
     → GoesUntil i (standing_at i x) (statements_of steps step) from z.store z.locks (member_at z i).state stopped
     → WaitsIf i x.locks z.locks (is_some stopped) → y ≡ with_rest i (rest_at step stopped) z
-    → HasGone steps i (tasks_from (drop from.statement (statements_of steps step)) from.request) x y
+    → HasGone steps i (tasks_from (member_at x i).state.status (drop from.statement (statements_of steps step)) from.request) x y
 gone-there steps i step from x z y stopped lt known same goes waits is =
     let m : Member = record { state = (member_at z i).state; rest = rest_at step stopped } in
     let w = with_rest i (rest_at step stopped) z in
     let there : i < length z.members = subst (λ n. i < n) (sym (others-count i x z same)) lt in
     let here : member_at w i ≡ m = get_or-set_same z.members i m no_member there in
-    subst (HasGone steps i (tasks_from (drop from.statement (statements_of steps step)) from.request) x) (sym is) (record {
+    subst (HasGone steps i (tasks_from (member_at x i).state.status (drop from.statement (statements_of steps step)) from.request) x) (sym is) (record {
       members = ap (λ ms. set ms i m) (others-set i x z same) ∙ set-set x.members i (member_at z i) m ∙ ap (set x.members i) (sym here);
-      stops = subst (λ (q : Member). StopsIn i (standing_at i x) (tasks_from (drop from.statement (statements_of steps step)) from.request)
+      stops = subst (λ (q : Member). StopsIn i (standing_at i x) (tasks_from (member_at x i).state.status (drop from.statement (statements_of steps step)) from.request)
           (record { layers = z.store; locks = z.locks; own = own_of steps q })) (sym here)
           (stops-of steps i step (standing_at i x) from z.store z.locks (member_at z i).state stopped goes);
       waits = subst (λ (q : Member). WaitsIf i x.locks z.locks (is_some q.rest)) (sym here)

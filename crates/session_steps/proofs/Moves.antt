@@ -9,6 +9,7 @@ use Rattle.lock_queues.specs.Locks.{waits_now}
 use Rattle.lock_queues.specs.LockTable.{Locks, look_in, taken, let_go, slice}
 use Rattle.lock_queues.proofs.Slices.{get-slice}
 use Rattle.bound_statements.specs.declared.statement.Bound.{Bound}
+use Rattle.bound_statements.specs.declared.statement.Level.{Level}
 use Rattle.events.specs.declared.event.Fault.{Fault}
 use Rattle.events.specs.declared.event.Fault.TheVariants.{Aborted}
 use Rattle.events.specs.declared.event.Event.{Event}
@@ -179,7 +180,7 @@ perform-work i x st is whole = ap (λ k. perform_by x.own.status k (session_in i
     at : (status : Status) → is_broken status ≡ false → perform_by status Works (session_in i x) x.layers.committed st
         ≡ worked (session_in i x) x.layers.committed (effect st (sight i x.layers))
     at Outside h = refl
-    at InBlock h = refl
+    at (InBlock level) h = refl
     at Broken h = cc
 
 worked-there : (i : ℕ) (x : Standing) (e : Effect) → fault_of e ≡ None → worked (session_in i x) x.layers.committed e
@@ -239,7 +240,7 @@ ends-inside i x inside = record {
     at : (e : Scene) (status : Status) → (status ≡ Outside → ⊥) → stopped e (finished_by status (session_in i x) x.layers.committed)
         ≡ record { session = session_in i (told x Done); rows = x.layers.committed; waits = e.waits }
     at e Outside h = absurd (h refl)
-    at e InBlock h = refl
+    at e (InBlock level) h = refl
     at e Broken h = refl
 
 -- ---- blocks
@@ -277,7 +278,7 @@ module _ (i : ℕ) (l : Layers) (t : Locks) (s : SessionState) (st : Bound) wher
           l.committed st ≡ Goes (session_in i (standing (undone i l) (let_go t i) (ended_by status tr RolledBack))) l.committed
       at Outside tr = ap (λ x. Goes x l.committed)
           (dropped-in (record { status = Outside; rest = []; transcript = (tr ++ Warned NoBlock ∷ []) ++ RolledBack ∷ [] }))
-      at InBlock tr = ap (λ x. Goes x l.committed) (dropped-in (record { status = Outside; rest = []; transcript = tr ++ RolledBack ∷ [] }))
+      at (InBlock level) tr = ap (λ x. Goes x l.committed) (dropped-in (record { status = Outside; rest = []; transcript = tr ++ RolledBack ∷ [] }))
       at Broken tr = ap (λ x. Goes x l.committed) (dropped-in (record { status = Outside; rest = []; transcript = tr ++ RolledBack ∷ [] }))
 
   pub commits-there : kind st ≡ Commits → waits_now t.waits i ≡ false → DoesTo i (standing l t s) st (commits_in i (standing l t s))
@@ -293,30 +294,30 @@ module _ (i : ℕ) (l : Layers) (t : Locks) (s : SessionState) (st : Bound) wher
           (commits_by status i (standing l t (record { status = status; transcript = tr }))).layers.committed
       at Outside tr = ap (λ x. Goes x (sight i l))
           (kept-in (record { status = Outside; rest = []; transcript = (tr ++ Warned NoBlock ∷ []) ++ Committed ∷ [] }))
-      at InBlock tr = ap (λ x. Goes x (sight i l)) (kept-in (record { status = Outside; rest = []; transcript = tr ++ Committed ∷ [] }))
+      at (InBlock level) tr = ap (λ x. Goes x (sight i l)) (kept-in (record { status = Outside; rest = []; transcript = tr ++ Committed ∷ [] }))
       at Broken tr = ap (λ x. Goes x l.committed) (dropped-in (record { status = Outside; rest = []; transcript = tr ++ RolledBack ∷ [] }))
 
       others : (status : Status) (tr : List Event) → let y = commits_by status i (standing l t (record { status = status; transcript = tr }))
           in SameOthers i l y.layers t y.locks
       others Outside tr = others-kept i (standing l t s)
-      others InBlock tr = others-kept i (standing l t s)
+      others (InBlock level) tr = others-kept i (standing l t s)
       others Broken tr = others-undone i (standing l t s)
 
       waits : (status : Status) (tr : List Event) → (commits_by status i (standing l t (record { status = status; transcript = tr }))).locks.waits ≡ t.waits
       waits Outside tr = waits-let_go t i idle
-      waits InBlock tr = waits-let_go t i idle
+      waits (InBlock level) tr = waits-let_go t i idle
       waits Broken tr = waits-let_go t i idle
 
   -- in a block that has failed only its end has an effect
-  pub broken-fails : is_broken s.status ≡ true → (kind st ≡ Begins) ⊎ (kind st ≡ Works) → FailsBy i (standing l t s) st Aborted (standing l t s)
-  broken-fails broken (inl is) = record {
-    fails = ap (λ k. perform_by s.status k (session_in i (standing l t s)) l.committed st) is ∙ at s.status broken;
+  pub broken-fails : is_broken s.status ≡ true → ((level : Level) × (kind st ≡ Begins level)) ⊎ (kind st ≡ Works) → FailsBy i (standing l t s) st Aborted (standing l t s)
+  broken-fails broken (inl begins) = record {
+    fails = ap (λ k. perform_by s.status k (session_in i (standing l t s)) l.committed st) begins.1 ∙ at s.status broken;
     same = refl;
   }
     where
-      at : (status : Status) → is_broken status ≡ true → perform_by status Begins (session_in i (standing l t s)) l.committed st ≡ Fails Aborted
+      at : (status : Status) → is_broken status ≡ true → perform_by status (Begins begins.0) (session_in i (standing l t s)) l.committed st ≡ Fails Aborted
       at Outside h = cc
-      at InBlock h = cc
+      at (InBlock level) h = cc
       at Broken h = refl
   broken-fails broken (inr is) = record {
     fails = ap (λ k. perform_by s.status k (session_in i (standing l t s)) l.committed st) is ∙ at s.status broken;
@@ -325,7 +326,7 @@ module _ (i : ℕ) (l : Layers) (t : Locks) (s : SessionState) (st : Bound) wher
     where
       at : (status : Status) → is_broken status ≡ true → perform_by status Works (session_in i (standing l t s)) l.committed st ≡ Fails Aborted
       at Outside h = cc
-      at InBlock h = cc
+      at (InBlock level) h = cc
       at Broken h = refl
 
 -- a step ends
@@ -334,7 +335,7 @@ ends-there i x idle = at x.own.status refl
   where
     at : (status : Status) → x.own.status ≡ status → StopsIn i x [] (finished_by_status status i x)
     at Outside is = ends-outside i x is idle
-    at InBlock is = ends-inside i x (λ e. let no : InBlock ≡ Outside = sym is ∙ e in cc)
+    at (InBlock level) is = ends-inside i x (λ e. let no : InBlock level ≡ Outside = sym is ∙ e in cc)
     at Broken is = ends-inside i x (λ e. let no : Broken ≡ Outside = sym is ∙ e in cc)
 
 -- ---- one statement

@@ -75,7 +75,7 @@ module _ (x : Staged) (i : ℕ) (block : List Bound) (stage : IsStage [] x) (lt 
   set-up-idle = sym (stage.resting i lt) ∙ ap is_some (no-rest x i stage lt)
 
   own-is : get_or owns i no_own ≡ (standing x.store x.locks m.state).own
-  own-is = get_or-owns [] x.members i ∙ ap (λ o. record { status = m.state.status; rest = rest_of [] o; transcript = m.state.transcript })
+  own-is = get_or-owns [] x.members i ∙ ap (λ o. record { status = m.state.status; rest = rest_of [] m.state.status o; transcript = m.state.transcript })
       (no-rest x i stage lt)
 
   at-is : session_at (world_in [] x) i ≡ session_of x.store x.locks i (standing x.store x.locks m.state).own
@@ -84,21 +84,21 @@ module _ (x : Staged) (i : ℕ) (block : List Bound) (stage : IsStage [] x) (lt 
   known : i < length (world_in [] x).sessions
   known = subst (λ n. i < n) (sym (length-sessions_from x.store x.locks 0 owns)) inside
 
-  enters : Entering (world_in [] x) i (session_at (world_in [] x) i) (tasks_of block)
-  enters = entering (world_in [] x) i (session_at (world_in [] x) i) block stage.steady known set-up-idle refl refl
+  enters : Entering (world_in [] x) i (session_at (world_in [] x) i) (tasks_of (session_at (world_in [] x) i).status block)
+  enters = entering (world_in [] x) i (session_at (world_in [] x) i) (session_at (world_in [] x) i).status block stage.steady known set-up-idle refl refl
 
-  pub set-up-to-go : IsToGo i x.store x.locks block 0 0
+  pub set-up-to-go : IsToGo i x.store x.locks m.state.status block 0 0
   set-up-to-go = to-go x.store x.locks owns i x.locks (standing x.store x.locks m.state).own block 0 0 within (same-refl i x.store x.locks) refl
-      (subst (λ s. Entering (world_in [] x) i s (tasks_from (drop 0 block) 0)) at-is
-      (subst (Entering (world_in [] x) i (session_at (world_in [] x) i)) (sym (tasks_from-start block)) enters))
+      (subst (λ (s : Session). Entering (world_in [] x) i s (tasks_from s.status (drop 0 block) 0)) at-is
+      (subst (Entering (world_in [] x) i (session_at (world_in [] x) i)) (sym (tasks_from-start (session_at (world_in [] x) i).status block)) enters))
 
-  module _ (z : Standing) (stops : StopsIn i (standing x.store x.locks m.state) (tasks_from (drop 0 block) 0) z) where
+  module _ (z : Standing) (stops : StopsIn i (standing x.store x.locks m.state) (tasks_from m.state.status (drop 0 block) 0) z) where
     goes-there : after ≡ world_of z.layers z.locks (set owns i z.own)
     goes-there =
-        ap (λ s. goes (world_in [] x) i s (tasks_of block)) at-is
-        ∙ goes-is x.store x.locks owns i x.locks (standing x.store x.locks m.state).own (tasks_of block) z within.below inside (same-refl i x.store x.locks)
+        ap (λ (s : Session). goes (world_in [] x) i s (tasks_of s.status block)) at-is
+        ∙ goes-is x.store x.locks owns i x.locks (standing x.store x.locks m.state).own (tasks_of m.state.status block) z within.below inside (same-refl i x.store x.locks)
         refl
-        (subst (λ ts. StopsIn i (standing x.store x.locks m.state) ts z) (tasks_from-start block) stops)
+        (subst (λ ts. StopsIn i (standing x.store x.locks m.state) ts z) (tasks_from-start m.state.status block) stops)
 
     set-inside : i < length (set owns i z.own)
     set-inside = subst (λ n. i < n) (sym (length-set owns i z.own)) inside
@@ -136,7 +136,7 @@ module _ (x : Staged) (i : ℕ) (block : List Bound) (stage : IsStage [] x) (lt 
 
     steady-there : Steady (forgotten after i)
     steady-there = touched-steady after i (record (session_at after i) { transcript = [] }) (record { overlay = refl; held = refl; rest = refl })
-        (goes-steady (world_in [] x) i (session_at (world_in [] x) i) (tasks_of block) enters)
+        (goes-steady (world_in [] x) i (session_at (world_in [] x) i) (tasks_of (session_at (world_in [] x) i).status block) enters)
 
     -- the stage with its part changed, and what it told forgotten
     module _ (y : Staged) (n : Member) (store : y.store ≡ z.layers) (locks : y.locks ≡ z.locks) (members : y.members
@@ -224,8 +224,8 @@ own-kept steps (m ∷ ms) all = λ k. here k ∷ own-kept steps ms (λ j d lt. a
     here = at m.rest refl
       where
         at : (o : Option Rest) → m.rest ≡ o → own_of steps m ≡ own_of [] m
-        at None is = ap (λ o. record { status = m.state.status; rest = rest_of steps o; transcript = m.state.transcript }) is
-            ∙ sym (ap (λ o. record { status = m.state.status; rest = rest_of [] o; transcript = m.state.transcript }) is)
+        at None is = ap (λ o. record { status = m.state.status; rest = rest_of steps m.state.status o; transcript = m.state.transcript }) is
+            ∙ sym (ap (λ o. record { status = m.state.status; rest = rest_of [] m.state.status o; transcript = m.state.transcript }) is)
         at (Some r) is = let below : r.step < 0 = all 0 m (omega arith) r is in absurd (omega arith)
 
 -- whichever steps are to be sent
@@ -260,7 +260,7 @@ module _ (x : Staged) (i : ℕ) (block : List Bound) (stage : IsStage [] x) (lt 
           let n : Member = record { state = record { status = s.status; transcript = [] }; rest = (member_at x i).rest } in
           let none = no-rest x i stage lt in
           let own : own_of [] n ≡ record { status = s.status; rest = []; transcript = [] } =
-          ap (λ r. record { status = s.status; rest = rest_of [] r; transcript = [] }) none in
+          ap (λ r. record { status = s.status; rest = rest_of [] s.status r; transcript = [] }) none in
           record {
             whole = failed-is x i block stage lt (standing l t s) goes ∙ f;
             idle = waits-is x i block stage lt (standing l t s) goes ∙ waits.own;

@@ -110,6 +110,12 @@ gone-told steps i ts x told y t e lt store locks members gone =
       known = gone.known;
     }
 
+-- it stands with its block as before
+pub told-status : (i : ℕ) (x told : Staged) (e : Event) → i < length x.members → told.members ≡ set x.members i (note_member (member_at x i) e)
+    → (member_at told i).state.status ≡ (member_at x i).state.status
+told-status i x told e lt members = ap (λ ms. (get_or ms i no_member).state.status) members
+    ∙ ap (λ (m : Member). m.state.status) (get_or-set_same x.members i (note_member (member_at x i) e) no_member lt)
+
 -- ---- a wait is granted
 
 waits-there : (us : List Wait) (v : Wait) (vs : List Wait) → waits_now (us ++ v ∷ vs) v.session ≡ true
@@ -148,26 +154,33 @@ module _ (steps : List Step) (x : Staged) (s : Spot) (stage : IsStage steps x) (
   rests = stage.resting i session-known ∙ ap (λ ws. waits_now ws i) (sym next.there) ∙ waits-there s.before s.wait s.after
 
   rest-is : (r : Rest) → (member_at x i).rest ≡ Some r → (get_or owns i no_own).rest
-      ≡ tasks_from (drop r.point.statement (statements_of steps r.step)) r.point.request
-  rest-is r is = ap (λ (o : Own). o.rest) (get_or-owns steps x.members i) ∙ ap (rest_of steps) is
+      ≡ tasks_from (member_at x i).state.status (drop r.point.statement (statements_of steps r.step)) r.point.request
+  rest-is r is = ap (λ (o : Own). o.rest) (get_or-owns steps x.members i) ∙ ap (rest_of steps (member_at x i).state.status) is
+
+  status-is : (get_or owns i no_own).status ≡ (member_at x i).state.status
+  status-is = ap (λ (o : Own). o.status) (get_or-owns steps x.members i)
 
   -- it is to go on with it
   pub resumed-to-go : (r : Rest) → (member_at x i).rest ≡ Some r
-      → IsToGo i x.store (grant x.locks s) (statements_of steps r.step) r.point.statement r.point.request
-  resumed-to-go r is = granted-to-go x.store x.locks owns s (statements_of steps r.step) r.point.statement r.point.request within stage.steady next inside
-      (rest-is r is)
+      → IsToGo i x.store (grant x.locks s) (member_at x i).state.status (statements_of steps r.step) r.point.statement r.point.request
+  resumed-to-go r is =
+      let sts = statements_of steps r.step in
+      subst (λ b. IsToGo i x.store (grant x.locks s) b sts r.point.statement r.point.request) status-is
+      (granted-to-go x.store x.locks owns s sts r.point.statement r.point.request within stage.steady next inside
+      (rest-is r is ∙ ap (λ b. tasks_from b (drop r.point.statement sts) r.point.request) (sym status-is)))
 
   next-now : next_in (world_in steps x) ≡ Some s
   next-now = next-is x.store x.locks owns within.below ∙ (tests-decide (length owns) x.locks within.below).next s next
 
   module _ (r : Rest) (is : (member_at x i).rest ≡ Some r) (y : Staged)
-      (gone : Gone steps i (tasks_from (drop r.point.statement (statements_of steps r.step)) r.point.request) x (grant x.locks s) Resumed y) where
+      (gone : Gone steps i (tasks_from (member_at x i).state.status (drop r.point.statement (statements_of steps r.step)) r.point.request) x (grant x.locks s) Resumed y) where
     stops : StopsIn i (record { layers = x.store; locks = grant x.locks s; own = resumed_own (get_or owns i no_own) }) (get_or owns i no_own).rest
         (part_of steps y i)
     stops = subst (λ ts. StopsIn i (record { layers = x.store; locks = grant x.locks s; own = resumed_own (get_or owns i no_own) }) ts (part_of steps y i))
         (sym (rest-is r is))
         (subst (λ o. StopsIn i (record { layers = x.store; locks = grant x.locks s; own = resumed_own o })
-        (tasks_from (drop r.point.statement (statements_of steps r.step)) r.point.request) (part_of steps y i)) (sym (get_or-owns steps x.members i))
+        (tasks_from (member_at x i).state.status (drop r.point.statement (statements_of steps r.step)) r.point.request) (part_of steps y i))
+        (sym (get_or-owns steps x.members i))
         gone.stops)
 
     left-out : (us : List Wait) (v : Wait) (vs : List Wait) → EachWait (λ w. w.session < length owns) (us ++ v ∷ vs)
@@ -264,11 +277,12 @@ module _ (steps : List Step) (x : Staged) (k i : ℕ) (stage : IsStage steps x) 
     sender-idle : waits_now x.locks.waits (get_or steps k no_step).session ≡ false
     sender-idle = sender-is (λ c. waits_now x.locks.waits c ≡ false) idle
 
-    pub sent-to-go-now : IsToGo i x.store x.locks (statements_of steps k) 0 0
-    sent-to-go-now = subst (λ c. IsToGo c x.store x.locks (statements_of steps k) 0 0) (sym is)
-        (sent-to-go steps x.store x.locks own_list k in-within stage.steady in-owns sender-idle)
+    pub sent-to-go-now : IsToGo i x.store x.locks (member_at x i).state.status (statements_of steps k) 0 0
+    sent-to-go-now = subst (λ (o : Own). IsToGo i x.store x.locks o.status (statements_of steps k) 0 0) (get_or-owns steps x.members i)
+        (subst (λ c. IsToGo c x.store x.locks (get_or own_list c no_own).status (statements_of steps k) 0 0) (sym is)
+        (sent-to-go steps x.store x.locks own_list k in-within stage.steady in-owns sender-idle))
 
-    module _ (y : Staged) (gone : Gone steps i (tasks_from (drop 0 (statements_of steps k)) 0) x x.locks (Sent k) y) where
+    module _ (y : Staged) (gone : Gone steps i (tasks_from (member_at x i).state.status (drop 0 (statements_of steps k)) 0) x x.locks (Sent k) y) where
       own-is : own_told (get_or own_list i no_own) (Sent k) ≡ record {
         status = (member_at x i).state.status;
         rest = [];
@@ -277,24 +291,25 @@ module _ (steps : List Step) (x : Staged) (k i : ℕ) (stage : IsStage steps x) 
       own-is = ap (λ o. own_told o (Sent k)) (get_or-owns steps x.members i)
           ∙ ap (λ o. record {
             status = (member_at x i).state.status;
-            rest = rest_of steps o;
+            rest = rest_of steps (member_at x i).state.status o;
             transcript = (note_member (member_at x i) (Sent k)).state.transcript;
           }) at-rest
 
       stops-here : StopsIn i (record { layers = x.store; locks = x.locks; own = own_told (get_or own_list i no_own) (Sent k) })
-          (tasks_of (statements_of steps k)) (part_of steps y i)
-      stops-here = subst (λ o. StopsIn i (record { layers = x.store; locks = x.locks; own = o }) (tasks_of (statements_of steps k)) (part_of steps y i))
+          (tasks_of (get_or own_list i no_own).status (statements_of steps k)) (part_of steps y i)
+      stops-here = subst (λ (o : Own). StopsIn i (record { layers = x.store; locks = x.locks; own = o }) (tasks_of o.status (statements_of steps k))
+          (part_of steps y i))
           (sym own-is)
           (subst (λ ts. StopsIn i (standing x.store x.locks (note_member (member_at x i) (Sent k)).state) ts (part_of steps y i))
-          (tasks_from-start (statements_of steps k)) gone.stops)
+          (tasks_from-start (member_at x i).state.status (statements_of steps k)) gone.stops)
 
       sender-stops : StopsIn (get_or steps k no_step).session (record {
         layers = x.store;
         locks = x.locks;
         own = own_told (get_or own_list (get_or steps k no_step).session no_own) (Sent k);
-      }) (tasks_of (statements_of steps k)) (part_of steps y i)
+      }) (tasks_of (get_or own_list (get_or steps k no_step).session no_own).status (statements_of steps k)) (part_of steps y i)
       sender-stops = subst (λ c. StopsIn c (record { layers = x.store; locks = x.locks; own = own_told (get_or own_list c no_own) (Sent k) })
-          (tasks_of (statements_of steps k)) (part_of steps y i)) is stops-here
+          (tasks_of (get_or own_list c no_own).status (statements_of steps k)) (part_of steps y i)) is stops-here
 
       there : world_of y.store y.locks (set own_list (get_or steps k no_step).session (own_of steps (member_at y i))) ≡ world_in steps y
       there = ap (λ c. world_of y.store y.locks (set own_list c (own_of steps (member_at y i)))) (sym is)
@@ -302,10 +317,11 @@ module _ (steps : List Step) (x : Staged) (k i : ℕ) (stage : IsStage steps x) 
 
       gone-there : goes (world_in steps x) (get_or steps k no_step).session
           (session_of x.store x.locks (get_or steps k no_step).session (own_told (get_or own_list (get_or steps k no_step).session no_own) (Sent k)))
-          (tasks_of (statements_of steps k)) ≡ world_in steps y
+          (tasks_of (get_or own_list (get_or steps k no_step).session no_own).status (statements_of steps k)) ≡ world_in steps y
       gone-there =
           let c = (get_or steps k no_step).session in
-          goes-is x.store x.locks own_list c x.locks (own_told (get_or own_list c no_own) (Sent k)) (tasks_of (statements_of steps k)) (part_of steps y i)
+          goes-is x.store x.locks own_list c x.locks (own_told (get_or own_list c no_own) (Sent k))
+          (tasks_of (get_or own_list c no_own).status (statements_of steps k)) (part_of steps y i)
           in-within.below in-owns (same-refl c x.store x.locks) refl sender-stops ∙ there
 
       sent-stage : IsStage steps y
@@ -314,14 +330,14 @@ module _ (steps : List Step) (x : Staged) (k i : ℕ) (stage : IsStage steps x) 
           stage-gone steps i x y x.locks (member_at y i) lt stage (same-refl i x.store x.locks) (λ d ne. refl) gone.members gone.stops.others gone.waits
           gone.known
           (subst Steady gone-there (goes-steady (world_in steps x) c (session_of x.store x.locks c (own_told (get_or own_list c no_own) (Sent k)))
-          (tasks_of (statements_of steps k)) (sent-enters steps x.store x.locks own_list k stage.steady in-owns sender-idle)))
+          (tasks_of (get_or own_list c no_own).status (statements_of steps k)) (sent-enters steps x.store x.locks own_list k stage.steady in-owns sender-idle)))
 
       pub has-started : HasStarted steps k x y
       has-started =
           let c = (get_or steps k no_step).session in
           record {
             world = sym gone-there
-                ∙ ap (λ (s : Session). goes (world_in steps x) c (note s (Sent k)) (tasks_of (statements_of steps k)))
+                ∙ ap (λ (s : Session). goes (world_in steps x) c (note s (Sent k)) (tasks_of s.status (statements_of steps k)))
                 (sym (session_at-is x.store x.locks own_list c in-owns));
             stage = sent-stage;
             count = ap length gone.members ∙ length-set x.members i (member_at y i);
@@ -330,10 +346,10 @@ module _ (steps : List Step) (x : Staged) (k i : ℕ) (stage : IsStage steps x) 
 -- a step that is sent to a session that does not wait: the world settles from there
 pub sent-settles : (steps : List Step) (w : World) (k : ℕ) → waits_now w.waits (get_or steps k no_step).session ≡ false
     → send steps w k
-    ≡ settle (goes w (get_or steps k no_step).session (note (session_at w (get_or steps k no_step).session) (Sent k)) (tasks_of (statements_of steps k)))
+    ≡ settle (goes w (get_or steps k no_step).session (note (session_at w (get_or steps k no_step).session) (Sent k)) (tasks_of (session_at w (get_or steps k no_step).session).status (statements_of steps k)))
 sent-settles steps w k idle = ap (λ b. let v : World =
     elim b [
       | true ↦ noted w (get_or steps k no_step).session (NotSent k)
       | false ↦ settle
-          (goes w (get_or steps k no_step).session (note (session_at w (get_or steps k no_step).session) (Sent k)) (tasks_of (statements_of steps k)))
+          (goes w (get_or steps k no_step).session (note (session_at w (get_or steps k no_step).session) (Sent k)) (tasks_of (session_at w (get_or steps k no_step).session).status (statements_of steps k)))
     ] in v) idle

@@ -54,5 +54,5 @@ finished-waits i x idle = at x.own.status
   where
     at : (status : Status) → (finished_by_status status i x).locks.waits ≡ x.locks.waits
     at Outside = waits-let_go x.locks i idle
-    at InBlock = refl
+    at (InBlock level) = refl
     at Broken = refl

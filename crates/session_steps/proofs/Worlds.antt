@@ -115,7 +115,7 @@ idle-now i (w ∷ ws) each = Rattle.std.proofs.lemmas.Bool.false_from_ne_true _ 
 -- a session that enters a world with these tasks is to go on with the statements that they are of
 pub to-go : (l : Layers) (t : Locks) (owns : List Own) (i : ℕ) (u : Locks) (own : Own) (sts : List Bound) (k n : ℕ) → IsWithin (length owns) l t
     → SameOthers i l l t u → u.waits ≡ t.waits
-    → Entering (world_of l t owns) i (session_of l u i own) (tasks_from (drop k sts) n) → IsToGo i l u sts k n
+    → Entering (world_of l t owns) i (session_of l u i own) (tasks_from own.status (drop k sts) n) → IsToGo i l u own.status sts k n
 to-go l t owns i u own sts k n within same waits en = record {
   idle = ap (λ ws. waits_now ws i) waits ∙ idle-now i t.waits en.idle;
   under = still-under i l l t u same (λ c ne. others-under l t owns within en.steady c);
@@ -143,7 +143,8 @@ module _ (steps : List Step) (l : Layers) (t : Locks) (owns : List Own) (k : ℕ
       ap (λ b. let x : World = elim b [
         | true ↦ noted (world_of l t owns) sender (NotSent k)
         | false ↦ settle
-            (goes (world_of l t owns) sender (note (session_at (world_of l t owns) sender) (Sent k)) (tasks_of (get_or steps k no_step).statements))
+            (goes (world_of l t owns) sender (note (session_at (world_of l t owns) sender) (Sent k))
+            (tasks_of (session_at (world_of l t owns) sender).status (get_or steps k no_step).statements))
       ] in x) now
       ∙ ap (λ (s : Session). record { rows = l.committed; sessions = set (sessions_from l t 0 owns) sender (note s (NotSent k)); waits = t.waits })
       (session_at-is l t owns sender lt)
@@ -155,28 +156,29 @@ module _ (steps : List Step) (l : Layers) (t : Locks) (owns : List Own) (k : ℕ
 
   -- it enters the world with the statements of the step
   pub sent-enters : Steady (world_of l t owns) → sender < length owns → waits_now t.waits sender ≡ false
-      → Entering (world_of l t owns) sender (session_of l t sender (own_told its_own (Sent k))) (tasks_of (get_or steps k no_step).statements)
+      → Entering (world_of l t owns) sender (session_of l t sender (own_told its_own (Sent k))) (tasks_of its_own.status (get_or steps k no_step).statements)
   sent-enters steady lt idle =
       let own = own_told its_own (Sent k) in
       let w = world_of l t owns in
       let at : session_at w sender ≡ session_of l t sender its_own = session_at-is l t owns sender lt in
       let known' : sender < length w.sessions = subst (λ n. sender < n) (sym (length-sessions_from l t 0 owns)) lt in
-      entering w sender (session_of l t sender own) (get_or steps k no_step).statements steady known' idle (sym (ap (λ (s : Session). s.held) at))
+      entering w sender (session_of l t sender own) its_own.status (get_or steps k no_step).statements steady known' idle (sym (ap (λ (s : Session). s.held) at))
       (sym (ap (λ (s : Session). s.overlay) at))
 
   -- it is to go on with the statements of the step
   pub sent-to-go : IsWithin (length owns) l t → Steady (world_of l t owns) → sender < length owns → waits_now t.waits sender ≡ false
-      → IsToGo sender l t (get_or steps k no_step).statements 0 0
+      → IsToGo sender l t its_own.status (get_or steps k no_step).statements 0 0
   sent-to-go within steady lt idle =
       let sts = (get_or steps k no_step).statements in
       let own = own_told its_own (Sent k) in
       to-go l t owns sender t own sts 0 0 within (same-refl sender l t) refl
-      (subst (Entering (world_of l t owns) sender (session_of l t sender own)) (sym (tasks_from-start sts)) (sent-enters steady lt idle))
+      (subst (Entering (world_of l t owns) sender (session_of l t sender own)) (sym (tasks_from-start its_own.status sts)) (sent-enters steady lt idle))
 
 -- a session whose wait is granted is to go on with what is left of its step
 pub granted-to-go : (l : Layers) (t : Locks) (owns : List Own) (s : Spot) (sts : List Bound) (k n : ℕ) → IsWithin (length owns) l t → Steady (world_of l t owns)
     → IsNext t s → s.wait.session < length owns
-    → (get_or owns s.wait.session no_own).rest ≡ tasks_from (drop k sts) n → IsToGo s.wait.session l (grant t s) sts k n
+    → (get_or owns s.wait.session no_own).rest ≡ tasks_from (get_or owns s.wait.session no_own).status (drop k sts) n
+    → IsToGo s.wait.session l (grant t s) (get_or owns s.wait.session no_own).status sts k n
 granted-to-go l t owns s sts k n within steady next lt rest =
     let i = s.wait.session in
     let w = world_of l t owns in
@@ -189,7 +191,7 @@ granted-to-go l t owns s sts k n within steady next lt rest =
     let resumed' : note (record (taking (session_at w i) s.wait.resource s.wait.mode) { rest = [] }) Resumed ≡ session_of l (grant t s) i (resumed_own own) =
     ap (λ (x : Session). note (record (taking x s.wait.resource s.wait.mode) { rest = [] }) Resumed) there
     ∙ sym (ap (λ (x : Session). note (record x { rest = [] }) Resumed) (session-taken l t1 i s.wait.resource s.wait.mode own)) in
-    let tasks : (session_at w i).rest ≡ tasks_from (drop k sts) n = ap (λ (x : Session). x.rest) there ∙ rest in
+    let tasks : (session_at w i).rest ≡ tasks_from own.status (drop k sts) n = ap (λ (x : Session). x.rest) there ∙ rest in
     let waiters = subst (EachWait (λ v. v.session < length owns)) (sym next.there) within.below.waiters in
     to-go l t1 owns i (grant t s) (resumed_own own) sts k n (record {
       overlays = within.overlays;

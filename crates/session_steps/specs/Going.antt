@@ -18,7 +18,9 @@ use Rattle.events.specs.declared.event.Event.TheVariants.{Failed, Waiting, Done,
 use Rattle.machine_model.specs.declared.status.Status.{Status}
 use Rattle.machine_model.specs.declared.status.Status.TheVariants.{Outside, InBlock, Broken}
 use Rattle.session_steps.specs.State.{SessionState}
-use Rattle.machine_model.specs.Session.{Task, Do, Session, Goes, Fails, perform, asks, tasks_of, after_fault}
+use Rattle.bound_statements.specs.Levels.{asked}
+use Rattle.bound_statements.specs.declared.statement.Level.{Level}
+use Rattle.machine_model.specs.Session.{Task, Do, Session, Goes, Fails, perform, asks, behind, in_status, tasks_of, after_fault}
 use Rattle.session_steps.specs.declared.asking.Asked.{Asked}
 use Rattle.session_steps.specs.declared.asking.Asked.TheVariants.{Had, Waits, Refused}
 use Rattle.session_steps.specs.declared.point.Point.{Point}
@@ -41,10 +43,10 @@ session_in i x = session_of x.layers x.locks i x.own
 abbrev pub run_in : ℕ → Standing → Run
 run_in i x = record { session = session_in i x; rows = x.layers.committed; waits = x.locks.waits }
 
--- what is left of statements from a request of the first one on
-abbrev pub tasks_from : List Bound → ℕ → List Task
-tasks_from [] n = []
-tasks_from (st ∷ sts) n = asks (nowait st) (drop n (plan st)) (Do st ∷ tasks_of sts)
+-- what is left of statements from a request of the first one on, where their session stands so with its block
+abbrev pub tasks_from : Status → List Bound → ℕ → List Task
+tasks_from x [] n = []
+tasks_from x (st ∷ sts) n = asks (nowait (in_status x st)) (drop n (asked (in_status x st))) (Do (in_status x st) ∷ tasks_of (behind x st) sts)
 
 -- the scene in which a session began to go, and the table now: the others hold what they held, the waits are the same in their order, and all sessions
 -- are below the scene's count
@@ -97,7 +99,7 @@ failed_in i x f = record {
 -- the session ends its step
 abbrev pub finished_by_status : Status → ℕ → Standing → Standing
 finished_by_status Outside i x = told (committed i x Outside) Done
-finished_by_status InBlock i x = told x Done
+finished_by_status (InBlock level) i x = told x Done
 finished_by_status Broken i x = told x Done
 
 abbrev pub finished_in : ℕ → Standing → Standing
@@ -110,18 +112,18 @@ abbrev pub standing : Layers → Locks → SessionState → Standing
 standing l t s = record { layers = l; locks = t; own = record { status = s.status; rest = []; transcript = s.transcript } }
 
 -- in a block that has failed none begins: such a statement fails
-abbrev pub begun_by : Status → List Event → SessionState
-begun_by InBlock t = record { status = InBlock; transcript = (t ++ Warned AlreadyInBlock ∷ []) ++ Began ∷ [] }
-begun_by Outside t = record { status = InBlock; transcript = t ++ Began ∷ [] }
-begun_by Broken t = record { status = InBlock; transcript = t ++ Began ∷ [] }
+abbrev pub begun_by : Level → Status → List Event → SessionState
+begun_by level (InBlock of) t = record { status = InBlock of; transcript = (t ++ Warned AlreadyInBlock ∷ []) ++ Began ∷ [] }
+begun_by level Outside t = record { status = InBlock level; transcript = t ++ Began ∷ [] }
+begun_by level Broken t = record { status = Broken; transcript = (t ++ Warned AlreadyInBlock ∷ []) ++ Began ∷ [] }
 
--- a block begins, or goes on with a warning
-abbrev pub begun_in : SessionState → SessionState
-begun_in s = begun_by s.status s.transcript
+-- a block begins at this level, or goes on at its own with a warning
+abbrev pub begun_in : Level → SessionState → SessionState
+begun_in level s = begun_by level s.status s.transcript
 
 abbrev pub ended_by : Status → List Event → Event → SessionState
 ended_by Outside t e = record { status = Outside; transcript = (t ++ Warned NoBlock ∷ []) ++ e ∷ [] }
-ended_by InBlock t e = record { status = Outside; transcript = t ++ e ∷ [] }
+ended_by (InBlock level) t e = record { status = Outside; transcript = t ++ e ∷ [] }
 ended_by Broken t e = record { status = Outside; transcript = t ++ e ∷ [] }
 
 -- a block ends so; without a block there is a warning
@@ -132,8 +134,8 @@ abbrev pub state_of : Standing → SessionState
 state_of x = record { status = x.own.status; transcript = x.own.transcript }
 
 -- a block begins, or goes on: its status and what it is told, no more
-abbrev pub begins_in : Standing → Standing
-begins_in x = standing x.layers x.locks (begun_in (state_of x))
+abbrev pub begins_in : Level → Standing → Standing
+begins_in level x = standing x.layers x.locks (begun_in level (state_of x))
 
 -- a block ends: its status and what it is told, no more; what it wrote and holds is kept or dropped beside it
 abbrev pub ends_block_in : Standing → Event → Standing
@@ -144,7 +146,7 @@ rolls_back_in i x = standing (undone i x.layers) (let_go x.locks i) (block_ended
 
 abbrev pub commits_by : Status → ℕ → Standing → Standing
 commits_by Outside i x = standing (kept i x.layers) (let_go x.locks i) (block_ended (state_of x) Committed)
-commits_by InBlock i x = standing (kept i x.layers) (let_go x.locks i) (block_ended (state_of x) Committed)
+commits_by (InBlock level) i x = standing (kept i x.layers) (let_go x.locks i) (block_ended (state_of x) Committed)
 commits_by Broken i x = rolls_back_in i x
 
 -- a block that has failed is rolled back
@@ -201,28 +203,28 @@ abbrev pub AsksOne : ℕ → Locks → Bound → ℕ → Locks → Option Reply 
 AsksOne i t st n u None = (slice_get (plan st) n ≡ None) × (u ≡ t)
 AsksOne i t st n u (Some reply) = Replied i t st n u reply
 
--- ---- what the call for the requests of a statement promises
+-- ---- what the call for the requests of a statement promises; the statement is at the level of its transaction
 
 -- the session holds the requests that it has had, and is to ask the others of the statement from this one on
 pub record IsToAsk (i : ℕ) (t : Locks) (st : Bound) (n : ℕ) : Type 0 where
   pub idle : waits_now t.waits i ≡ false
   pub have : List Request
   pub holds : HoldsAll (slice i t.held) have
-  pub backed : Backed have (asks (nowait st) (drop n (plan st)) (Do st ∷ []))
+  pub backed : Backed have (asks (nowait st) (drop n (asked st)) (Do st ∷ []))
 
 -- where it stands that waits for the request with this number, before tasks that come behind the statement's
 abbrev pub waits_at : Layers → Locks → SessionState → Bound → ℕ → List Task → Standing
 waits_at l t s st n ts = record {
   layers = l;
   locks = t;
-  own = record { status = s.status; rest = asks (nowait st) (drop (n + 1) (plan st)) ts; transcript = s.transcript ++ Waiting ∷ [] };
+  own = record { status = s.status; rest = asks (nowait st) (drop (n + 1) (asked st)) ts; transcript = s.transcript ++ Waiting ∷ [] };
 }
 
 -- all requests from that number on are had, or one waits, or is refused
 abbrev pub Asks : ℕ → Locks → SessionState → Bound → ℕ → Locks → Asked → Type 0
-Asks i t s st n u Had = (l : Layers) (ts : List Task) → GoesOnTo i (standing l t s) (asks (nowait st) (drop n (plan st)) ts) (standing l u s) ts
-Asks i t s st n u (Waits k) = (l : Layers) (ts : List Task) → StopsIn i (standing l t s) (asks (nowait st) (drop n (plan st)) ts) (waits_at l u s st k ts)
-Asks i t s st n u (Refused f) = (l : Layers) (ts : List Task) → StopsIn i (standing l t s) (asks (nowait st) (drop n (plan st)) ts) (failed_in i (standing l u s) f)
+Asks i t s st n u Had = (l : Layers) (ts : List Task) → GoesOnTo i (standing l t s) (asks (nowait st) (drop n (asked st)) ts) (standing l u s) ts
+Asks i t s st n u (Waits k) = (l : Layers) (ts : List Task) → StopsIn i (standing l t s) (asks (nowait st) (drop n (asked st)) ts) (waits_at l u s st k ts)
+Asks i t s st n u (Refused f) = (l : Layers) (ts : List Task) → StopsIn i (standing l t s) (asks (nowait st) (drop n (asked st)) ts) (failed_in i (standing l u s) f)
 
 -- a request that waits has a number below 255, and its session waits now; nobody else begins to wait or stops
 abbrev pub Queues : ℕ → Locks → Locks → Asked → Type 0
@@ -232,7 +234,7 @@ Queues i t u (Refused f) = u.waits ≡ t.waits
 
 -- then it holds all that the statement asks for
 abbrev pub HasAll : ℕ → Locks → Bound → Asked → Type 0
-HasAll i u st Had = HoldsAll (slice i u.held) (plan st)
+HasAll i u st Had = HoldsAll (slice i u.held) (asked st)
 HasAll i u st (Waits k) = Unit {0}
 HasAll i u st (Refused f) = Unit {0}
 
@@ -245,22 +247,22 @@ pub record HasAsked (i : ℕ) (t : Locks) (s : SessionState) (st : Bound) (n : �
 -- ---- what the call for a step promises
 
 -- the session is to go on with statements from a request of one of them
-pub record IsToGo (i : ℕ) (l : Layers) (t : Locks) (sts : List Bound) (k n : ℕ) : Type 0 where
+pub record IsToGo (i : ℕ) (l : Layers) (t : Locks) (x : Status) (sts : List Bound) (k n : ℕ) : Type 0 where
   pub idle : waits_now t.waits i ≡ false
   pub under : (c : ℕ) → c ≢ i → UnderLocks (overlay_of c l) (slice c t.held)
   pub have : List Request
   pub holds : HoldsAll (slice i t.held) have
-  pub backed : Backed have (tasks_from (drop k sts) n)
+  pub backed : Backed have (tasks_from x (drop k sts) n)
 
 -- where it stands that is to go on from a request of one of the statements
 abbrev pub paused : Layers → Locks → SessionState → List Bound → Point → Standing
 paused l t s sts p = record {
   layers = l;
   locks = t;
-  own = record { status = s.status; rest = tasks_from (drop p.statement sts) p.request; transcript = s.transcript };
+  own = record { status = s.status; rest = tasks_from s.status (drop p.statement sts) p.request; transcript = s.transcript };
 }
 
 -- the step ends there, or a request of it waits, behind which it is to go on
 abbrev pub GoesUntil : ℕ → Standing → List Bound → Point → Layers → Locks → SessionState → Option Point → Type 0
-GoesUntil i x sts from m u s None = StopsIn i x (tasks_from (drop from.statement sts) from.request) (standing m u s)
-GoesUntil i x sts from m u s (Some p) = StopsIn i x (tasks_from (drop from.statement sts) from.request) (paused m u s sts p)
+GoesUntil i x sts from m u s None = StopsIn i x (tasks_from x.own.status (drop from.statement sts) from.request) (standing m u s)
+GoesUntil i x sts from m u s (Some p) = StopsIn i x (tasks_from x.own.status (drop from.statement sts) from.request) (paused m u s sts p)

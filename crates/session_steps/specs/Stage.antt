@@ -11,6 +11,7 @@ use Rattle.events.specs.declared.event.Event.{Event}
 use Rattle.events.specs.declared.event.Event.TheVariants.{Sent}
 use Rattle.bound_statements.specs.declared.statement.Bound.{Bound}
 use Rattle.bound_specs.specs.Spec.{Spec, Step, no_step}
+use Rattle.machine_model.specs.declared.status.Status.{Status}
 use Rattle.machine_model.specs.declared.status.Status.TheVariants.{Outside}
 use Rattle.session_steps.specs.declared.point.Origin.{Origin}
 use Rattle.session_steps.specs.declared.point.Origin.TheVariants.{Step as StepOf}
@@ -40,12 +41,12 @@ abbrev pub statements_of : List Step → ℕ → List Bound
 statements_of steps k = (get_or steps k no_step).statements
 
 -- the tasks that are left of a step
-abbrev pub rest_of : List Step → Option Rest → List Task
-rest_of steps None = []
-rest_of steps (Some r) = tasks_from (drop r.point.statement (statements_of steps r.step)) r.point.request
+abbrev pub rest_of : List Step → Status → Option Rest → List Task
+rest_of steps x None = []
+rest_of steps x (Some r) = tasks_from x (drop r.point.statement (statements_of steps r.step)) r.point.request
 
 abbrev pub own_of : List Step → Member → Own
-own_of steps m = record { status = m.state.status; rest = rest_of steps m.rest; transcript = m.state.transcript }
+own_of steps m = record { status = m.state.status; rest = rest_of steps m.state.status m.rest; transcript = m.state.transcript }
 
 -- the world of a stage on which these steps are sent
 abbrev pub world_in : List Step → Staged → World
@@ -137,7 +138,7 @@ pub record HasGone (steps : List Step) (i : ℕ) (ts : List Task) (x y : Staged)
 pub record HasStarted (steps : List Step) (k : ℕ) (x y : Staged) : Type 0 where
   pub world : world_in steps y
       ≡ goes (world_in steps x) (get_or steps k no_step).session (note (session_at (world_in steps x) (get_or steps k no_step).session) (Sent k))
-      (tasks_of (statements_of steps k))
+      (tasks_of (session_at (world_in steps x) (get_or steps k no_step).session).status (statements_of steps k))
   pub stage : IsStage steps y
   pub count : length y.members ≡ length x.members
 

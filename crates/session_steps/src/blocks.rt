@@ -8,6 +8,7 @@ ghost use Rattle.session_steps.specs.Going.{begins_in, commits_in, ends_block_in
 ghost use Rattle.session_steps.specs.Stage.{member_at, others, standing_at};
 
 use crate::stage::Stage;
+use bound_statements::Level;
 use events::{Event, Fault, Warning};
 use machine_model::Status;
 use std::alloc::AllocError;
@@ -56,7 +57,7 @@ fn status_after_fault(status: Status) -> Status
 {
     match status {
         Status::Outside => Status::Outside,
-        Status::InBlock | Status::Broken => Status::Broken,
+        Status::InBlock(_) | Status::Broken => Status::Broken,
     }
 }
 
@@ -73,18 +74,19 @@ pub(crate) fn finish<S: Stage>(stage: &mut S, session: u8) -> Result<(), AllocEr
     stage.tell(session, Event::Done)
 }
 
-/// BEGIN, in a session whose block has not failed.
-pub(crate) fn begin<S: Stage>(stage: &mut S, session: u8) -> Result<(), AllocError>
+/// BEGIN, in a session whose block has not failed. A block that is there keeps its level.
+pub(crate) fn begin<S: Stage>(stage: &mut S, session: u8, level: Level) -> Result<(), AllocError>
     requires inside { session < S.count (S.past stage.old) }
     requires whole { (member_at (S.staged stage.old) session).state.status ≢ of.Broken }
-    ensures began { OnOk result (standing_at session (S.staged stage.new) ≡ begins_in (standing_at session (S.staged stage.old))) }
+    ensures began { OnOk result (standing_at session (S.staged stage.new) ≡ begins_in level (standing_at session (S.staged stage.old))) }
     ensures others { OnOk result (others session (S.staged stage.new) ≡ others session (S.staged stage.old)) }
     ensures past { S.past stage.new ≡ S.past stage.old }
 {
-    if !stage.status(session).is_outside() {
+    if stage.status(session).is_outside() {
+        stage.set_status(session, Status::InBlock(level))?;
+    } else {
         stage.tell(session, Event::Warned(Warning::InBlock))?;
     }
-    stage.set_status(session, Status::InBlock)?;
     stage.tell(session, Event::Began)
 }
 

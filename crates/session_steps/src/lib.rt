@@ -11,7 +11,7 @@ mod setups;
 mod stage;
 mod stepping;
 
-pub use asking::Asked;
+pub use asking::{Asked, is_unlocked_in};
 pub use error::{SendError, StartError};
 pub use performing::perform;
 pub use point::{Origin, Point, Rest};

@@ -2,14 +2,16 @@
 
 ghost use Rattle.std.specs.Prelude.{◌≡◌, ◌<◌, ◌⊎◌, false, IfOk, OnOk};
 ghost use Rattle.lock_queues.specs.Locks.{waits_now};
-ghost use Rattle.statement_execution.specs.Run.{SeesAlone};
+ghost use Rattle.statement_execution.specs.Run.{MayLook};
+ghost use Rattle.bound_statements.specs.Levels.{block_level};
+ghost use Rattle.bound_statements.specs.declared.statement.Level.{Level};
 ghost use Rattle.machine_model.specs.Session.{Begins, Works, kind};
 ghost use Rattle.session_steps.specs.Going.{Does};
 ghost use Rattle.session_steps.specs.Stage.{others, standing_at};
 
 use crate::blocks::{begin, commit, roll_back};
 use crate::stage::Stage;
-use bound_statements::Bound;
+use bound_statements::{Bound, Level};
 use events::Fault;
 use std::alloc::{AllocError, Global};
 
@@ -22,7 +24,7 @@ pub fn perform<S: Stage>(
 ) -> Result<Option<Fault>, AllocError>
     requires inside { session < S.count (S.past stage.old) }
     requires idle { waits_now (S.staged stage.old).locks.waits session ≡ false }
-    requires alone { SeesAlone session statement.now (S.staged stage.old).store }
+    requires alone { MayLook session statement.now (S.staged stage.old).store }
     ensures does { IfOk result (Does session (standing_at session (S.staged stage.old)) statement.now (standing_at session (S.staged stage.new))) }
     ensures others { OnOk result (others session (S.staged stage.new) ≡ others session (S.staged stage.old)) }
     ensures past { S.past stage.new ≡ S.past stage.old }
@@ -48,8 +50,8 @@ fn work<S: Stage>(
     statement: &Bound,
 ) -> Result<Option<Fault>, AllocError>
     requires inside { session < S.count (S.past stage.old) }
-    requires ends_none { (kind statement.now ≡ Begins) ⊎ (kind statement.now ≡ Works) }
-    requires alone { SeesAlone session statement.now (S.staged stage.old).store }
+    requires ends_none { ((level : Level) × (kind statement.now ≡ Begins level)) ⊎ (kind statement.now ≡ Works) }
+    requires alone { MayLook session statement.now (S.staged stage.old).store }
     ensures does { IfOk result (Does session (standing_at session (S.staged stage.old)) statement.now (standing_at session (S.staged stage.new))) }
     ensures others { OnOk result (others session (S.staged stage.new) ≡ others session (S.staged stage.old)) }
     ensures past { S.past stage.new ≡ S.past stage.old }
@@ -58,10 +60,20 @@ fn work<S: Stage>(
         return Ok(Some(Fault::Aborted));
     }
     match statement {
-        Bound::Begin => {
-            begin(stage, session)?;
+        Bound::Begin(named) => {
+            begin(stage, session, level_of(*named))?;
             Ok(None)
         }
         _ => stage.run(alloc, session, statement),
+    }
+}
+
+/// The level of a block that names this one, or none.
+fn level_of(named: Option<Level>) -> Level
+    ensures { result ≡ block_level named }
+{
+    match named {
+        None => Level::Serializable,
+        Some(level) => level,
     }
 }

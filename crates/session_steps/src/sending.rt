@@ -7,7 +7,7 @@ ghost use Rattle.bound_specs.specs.Spec.{no_step};
 ghost use Rattle.machine_model.specs.World.{send, settle};
 ghost use Rattle.session_steps.specs.Going.{tasks_from, IsToGo};
 ghost use Rattle.session_steps.specs.Stage as spec;
-ghost use Rattle.session_steps.specs.Stage.{statements_of, world_in, HasGone, HasResumed, HasStarted, HasTold, IsSettled, IsStage, KnowsSteps};
+ghost use Rattle.session_steps.specs.Stage.{member_at, statements_of, world_in, HasGone, HasResumed, HasStarted, HasTold, IsSettled, IsStage, KnowsSteps};
 
 use crate::point::{Origin, Point, Rest};
 use crate::stage::Stage;
@@ -76,9 +76,9 @@ fn go<S: Stage>(
     requires known { step < length spec.now.run.steps }
     requires knows { KnowsSteps (S.knows (S.past stage.old)) spec.now.run.steps }
     requires inside { session < length (S.staged stage.old).members }
-    requires ready { IsToGo session (S.staged stage.old).store (S.staged stage.old).locks (statements_of spec.now.run.steps step) from.statement from.request }
+    requires ready { IsToGo session (S.staged stage.old).store (S.staged stage.old).locks (member_at (S.staged stage.old) session).state.status (statements_of spec.now.run.steps step) from.statement from.request }
     ensures gone { OnOk result (HasGone spec.now.run.steps session
-        (tasks_from (drop from.statement (statements_of spec.now.run.steps step)) from.request) (S.staged stage.old) (S.staged stage.new)) }
+        (tasks_from (member_at (S.staged stage.old) session).state.status (drop from.statement (statements_of spec.now.run.steps step)) from.request) (S.staged stage.old) (S.staged stage.new)) }
     ensures past { S.past stage.new ≡ S.past stage.old }
 {
     let statements = spec.statements(step);

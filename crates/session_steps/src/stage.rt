@@ -9,7 +9,7 @@ ghost use Rattle.row_tables.specs.Layers.{sight};
 ghost use Rattle.bound_statements.specs.Plan.{HasKeys, IsShort};
 ghost use Rattle.bound_statements.specs.declared.statement.Bound.{Bound as Statement};
 ghost use Rattle.statement_evaluation.specs.Effect.{effect};
-ghost use Rattle.statement_execution.specs.Run.{SeesAlone, fault_of};
+ghost use Rattle.statement_execution.specs.Run.{MayLook, fault_of};
 ghost use Rattle.machine_model.specs.Start.{is_failure};
 ghost use Rattle.session_steps.specs.Going.{AsksOne, told};
 ghost use Rattle.session_steps.specs.Acting as act;
@@ -88,15 +88,15 @@ pub trait Stage: Drop {
         ensures others { OnOk result (others session (staged self.new) ≡ others session (staged self.old)) }
         ensures past { past self.new ≡ past self.old };
 
-    /// Does a statement whose effect is on rows, where no other session has written where it looks: its whole effect on the rows that the session
-    /// sees, or none where it fails. Tells of it; where it fails, the fault is the answer and nothing is told.
+    /// Does a statement whose effect is on rows: its whole effect on the rows that the session sees, or none where it fails. Where others have written only a
+    /// select may look, which shows what is committed. Tells of it; where it fails, the fault is the answer and nothing is told.
     fn run(
         &mut self,
         alloc: Global,
         session: u8,
         statement: &Bound,
     ) -> Result<Option<Fault>, AllocError>
-        requires alone { SeesAlone session statement.now (staged self.old).store }
+        requires alone { MayLook session statement.now (staged self.old).store }
         requires inside { session < count (past self.old) }
         ensures fault { IfOk result (λ fault. fault ≡ fault_of (effect statement.now (sight session (staged self.old).store))) }
         ensures ran { OnOk result (standing_at session (staged self.new) ≡ act.ran session statement.now (standing_at session (staged self.old))) }

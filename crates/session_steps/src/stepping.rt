@@ -28,7 +28,7 @@ pub(crate) fn go_on<S: Stage>(
     requires short { All IsShort statements.now }
     requires known { KnowsAll (S.knows (S.past stage.old) origin) statements.now }
     requires inside { session < S.count (S.past stage.old) }
-    requires ready { IsToGo session (S.staged stage.old).store (S.staged stage.old).locks statements.now from.statement from.request }
+    requires ready { IsToGo session (S.staged stage.old).store (S.staged stage.old).locks (member_at (S.staged stage.old) session).state.status statements.now from.statement from.request }
     ensures goes { IfOk result (GoesUntil session (standing_at session (S.staged stage.old)) statements.now from (S.staged stage.new).store
         (S.staged stage.new).locks (member_at (S.staged stage.new) session).state) }
     ensures waits { IfOk result (λ stopped. WaitsIf session (S.staged stage.old).locks (S.staged stage.new).locks (is_some stopped)) }

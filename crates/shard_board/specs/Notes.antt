@@ -47,7 +47,7 @@ abbrev pub no_spec : Spec
 no_spec = record { sessions = 0; steps = []; setups = []; session_setups = []; lines = [] }
 
 abbrev pub no_file : SpecFile
-no_file = record { text = []; session_names = []; step_names = []; run = no_spec }
+no_file = record { text = []; session_names = []; step_names = []; asked = None; run = no_spec }
 
 abbrev pub no_plan : Plan
 no_plan = record { shards = 0; seats = 0; empty = empty_book no_file }

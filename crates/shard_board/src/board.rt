@@ -1,6 +1,6 @@
 //! Boards.
 
-ghost use Rattle.std.specs.Prelude.{◌≡◌, ◌↔◌, ◌≤◌, true, All, vec_len, length, IfOk, IfErr, OnOk};
+ghost use Rattle.std.specs.Prelude.{◌≡◌, ◌↔◌, ◌≤◌, true, All, vec_len, length, None, IfOk, IfErr, OnOk};
 ghost use Rattle.rank_facts.specs.Shards.{IsShardOf};
 ghost use Rattle.shard_board.specs.Changes.{IsPlanOf, IsRowOf};
 ghost use Rattle.shard_board.specs.Refused.{IsNoBoard};
@@ -38,13 +38,14 @@ impl Model for Board {
 }
 
 impl Board {
-    /// A board for these shards of a spec, with an empty book and nothing claimed, and its seats, which are numbered from 0 on.
+    /// A board for these shards of a spec, with an empty book and nothing claimed, and its seats, which are numbered from 0 on. Levels are not asked for.
     pub fn new(
         alloc: Global,
         spec: &Spec,
         shards: Vec<Shard>,
         seats: u8,
     ) -> Result<(Board, Vec<Seat>), BoardError>
+        requires unasked { spec.now.asked ≡ None }
         ensures refused { IfErr result (IsNoBoard spec.now.run shards.items seats) }
         ensures lawful { OnOk result (IsPlanOf spec.now.run shards.items seats) }
         ensures spec { IfOk result (λ r. r.0.file ≡ spec.now) }
@@ -69,6 +70,7 @@ fn made(
     shards: u32,
     seats: u8,
 ) -> Result<(Board, Vec<Seat>), AllocError>
+    requires unasked { spec.now.asked ≡ None }
     requires few { (shards ≤ MAX_SHARDS) × (1 ≤ seats) × (seats ≤ MAX_SEATS) }
     ensures spec { IfOk result (λ r. r.0.file ≡ spec.now) }
     ensures counts { IfOk result (λ r. (r.0.shards ≡ shards) × (r.0.seats ≡ seats) × (vec_len r.1 ≡ seats)) }

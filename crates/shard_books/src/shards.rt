@@ -1,7 +1,7 @@
 //! The book of a shard.
 
 ghost use mathlib.Core.List.{IsPrefix};
-ghost use Rattle.std.specs.Prelude.{◌≡◌, ◌<◌, ◌≤◌, [], false, IfOk, IfErr, OnOk};
+ghost use Rattle.std.specs.Prelude.{◌≡◌, ◌<◌, ◌≤◌, [], false, None, IfOk, IfErr, OnOk};
 ghost use Rattle.std.specs.FinSet.{empty};
 ghost use Rattle.bound_specs.specs.Spec.{IsBound, IsReady};
 ghost use Rattle.rank_facts.specs.Shards.{IsShardOf};
@@ -19,8 +19,9 @@ use std::alloc::{AllocError, Global};
 use step_reducer::{Said, SaidRun, ShardWalk};
 
 /// The facts of the ranks of a shard, each with its own: when reducing the least swap where the rank has one, and else the
-/// outcome. It is refused as its walk is.
+/// outcome. It is refused as its walk is. Levels are not asked for.
 pub fn of_shard(alloc: Global, spec: &Spec, shard: Shard, reduce: bool) -> Result<Book, RunError>
+    requires unasked { spec.now.asked ≡ None }
     ensures refused { IfErr result (IsNotWalked spec.now.run shard) }
     ensures lawful { OnOk result (IsShardOf spec.now.run shard) }
     ensures started { OnOk result (Starts spec.now.run) }
@@ -34,6 +35,7 @@ pub fn of_shard(alloc: Global, spec: &Spec, shard: Shard, reduce: bool) -> Resul
 /// The facts of the ranks that a walk has before it in its shard, at whose end it stands then. Where memory is refused the walk is good for nothing
 /// more: facts that it gave are gone.
 pub fn of_walk(alloc: Global, spec: &Spec, walk: &mut ShardWalk<'_>) -> Result<Book, AllocError>
+    requires unasked { spec.now.asked ≡ None }
     requires whole { walk.old.spent ≡ false }
     requires of_spec { walk.old.file ≡ spec.now }
     ensures of_spec { IfOk result (λ book. book.file ≡ spec.now) }

@@ -1,6 +1,6 @@
 //! Runs of plans.
 
-ghost use Rattle.std.specs.Prelude.{◌≡◌, IfOk, IfErr, OnOk};
+ghost use Rattle.std.specs.Prelude.{◌≡◌, None, IfOk, IfErr, OnOk};
 ghost use Rattle.step_reducer.specs.Walking.{Starts};
 ghost use Rattle.shard_board.specs.Changes.{IsPlanOf};
 ghost use Rattle.shard_farm.specs.Farming.{AreShardFacts, IsNotFarmed, IsLeft};
@@ -20,7 +20,7 @@ use std::thread::Threads;
 use step_reducer::Shard;
 
 /// The facts of all shards of a plan, run by so many workers: when reducing the least swap where a rank has one, and else its outcome.
-/// Shards may overlap. A worker that is refused memory goes on with its next claim.
+/// Shards may overlap. A worker that is refused memory goes on with its next claim. Levels are not asked for.
 pub fn farm_run<R: Threads + Wait + Sync, G: Gate + Sync>(
     rt: &R,
     alloc: Global,
@@ -30,6 +30,7 @@ pub fn farm_run<R: Threads + Wait + Sync, G: Gate + Sync>(
     workers: u8,
     gate: &G,
 ) -> Result<Book, FarmError>
+    requires unasked { spec.now.asked ≡ None }
     ensures refused { IfErr result (IsNotFarmed reduce spec.now shards.now workers) }
     ensures lawful { OnOk result (IsPlanOf spec.now.run shards.now workers) }
     ensures started { OnOk result (Starts spec.now.run) }
@@ -53,6 +54,7 @@ fn run_plan<R: Threads + Wait + Sync, G: Gate + Sync>(
     gate: &G,
     reserved: Reserved,
 ) -> Result<Book, FarmError>
+    requires unasked { spec.now.asked ≡ None }
     requires runnable { AreRunnable spec.now.run shards.now }
     requires reserved { IsReserved spec.now shards.now reserved }
     ensures left { IfErr result (IsLeft reduce spec.now shards.now) }

@@ -1,6 +1,6 @@
 //! What a run needs beside the shards' own runs and deliveries. All of it is had before the first shard is claimed.
 
-ghost use Rattle.std.specs.Prelude.{IfErr, IfOk, OnOk};
+ghost use Rattle.std.specs.Prelude.{◌≡◌, None, IfErr, IfOk, OnOk};
 ghost use Rattle.machine_model.specs.Start.{start};
 ghost use Rattle.session_machine.specs.Running.{IsNotRunBy};
 ghost use Rattle.step_reducer.specs.Walking.{Starts};
@@ -34,6 +34,7 @@ pub(crate) fn reserve(
     shards: &[Shard],
     workers: u8,
 ) -> Result<Reserved, FarmError>
+    requires unasked { spec.now.asked ≡ None }
     ensures refused { IfErr result (IsNotBegun spec.now.run shards.now workers) }
     ensures lawful { OnOk result (IsPlanOf spec.now.run shards.now workers) }
     ensures started { OnOk result (Starts spec.now.run) }
@@ -71,7 +72,8 @@ fn room_for(
     shards: &[Shard],
     workers: u8,
 ) -> Result<Reserved, AllocError>
-    requires { IsPlanOf spec.now.run shards.now workers }
+    requires unasked { spec.now.asked ≡ None }
+    requires plan { IsPlanOf spec.now.run shards.now workers }
     ensures { IfOk result (IsReserved spec.now shards.now) }
 {
     let numbers = Vec::with_capacity(alloc, shards.len())?;

@@ -1,6 +1,6 @@
 //! One worker.
 
-ghost use Rattle.std.specs.Prelude.{◌≡◌, ◌<◌, true, false, length, IfOk, OnOk};
+ghost use Rattle.std.specs.Prelude.{◌≡◌, ◌<◌, true, false, length, None, IfOk, OnOk};
 ghost use Rattle.bound_specs.specs.Binding.{IsFileOf};
 ghost use Rattle.rank_facts.specs.Shards.{IsShardOf};
 ghost use Rattle.step_reducer.specs.Shardwise.{standing_at};
@@ -64,6 +64,7 @@ fn book_of<'a>(
     walk: &mut ShardWalk<'a>,
     number: u32,
 ) -> Result<Book, AllocError>
+    requires unasked { spec.now.asked ≡ None }
     requires number { number < length plan.shards.now }
     requires runnable { AreRunnable spec.now.run plan.shards.now }
     requires walk { IsWalkFor spec.now plan.reduce walk.old }
@@ -92,6 +93,7 @@ fn serve<'a, R: Wait>(
     seat: &mut Seat,
     number: u32,
 ) -> bool
+    requires unasked { spec.now.asked ≡ None }
     requires board { seat.old.board ≡ board.now }
     requires shard { number < length plan.shards.now }
     requires may { MayServe seat.old number }
@@ -131,6 +133,7 @@ fn work_on<R: Wait, G: Gate>(
     worker: &mut Worker,
     first: u32,
 ) -> bool
+    requires unasked { spec.now.asked ≡ None }
     requires shards { length plan.shards.now ≡ board.now.shards }
     requires file { spec.now ≡ board.now.file }
     requires runnable { AreRunnable spec.now.run plan.shards.now }

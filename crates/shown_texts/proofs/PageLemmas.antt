@@ -263,7 +263,7 @@ module _ (p : Page) (small : IsSmall p) where
       (all-append IsNarrow (plain_lines (title f p)) (level_lines p ++ plain_lines (order_text p.steps p.shown.moments))
       (plain-narrow (title f p))
       (all-append IsNarrow (level_lines p) (plain_lines (order_text p.steps p.shown.moments))
-      (all-flat IsNarrow plain_lines plain-narrow (level_text p.level_lines)) (plain-narrow (order_text p.steps p.shown.moments))))
+      (all-flat IsNarrow plain_lines plain-narrow (level_text p.level p.other_lines)) (plain-narrow (order_text p.steps p.shown.moments))))
       (all-append IsNarrow (lanes_part p f rs) (rest_part p f rs)
       (all-append IsNarrow (part (map (row_text f) (head_row f ∷ rs))) (part (waiting_from f 0 p.shown.standings))
       (part-narrow (map (row_text f) (head_row f ∷ rs)) lanes-narrow) (part-narrow (waiting_from f 0 p.shown.standings) (all-waiting f 0 p.shown.standings)))

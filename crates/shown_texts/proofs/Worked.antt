@@ -12,6 +12,7 @@ use Rattle.lock_queues.specs.Reasons.{Want}
 use Rattle.events.specs.declared.event.Fault.TheVariants.{Deadlock, Unavailable}
 use Rattle.events.specs.declared.event.Event.{Event}
 use Rattle.events.specs.declared.event.Event.TheVariants as event
+use Rattle.bound_statements.specs.declared.statement.Level.TheVariants.{Serializable, Committed}
 use Rattle.machine_model.specs.declared.status.Status.{Status}
 use Rattle.machine_model.specs.declared.status.Status.TheVariants.{Outside, InBlock, Broken}
 use Rattle.line_moments.specs.declared.moment.Ending.{Ending}
@@ -24,6 +25,7 @@ use Rattle.shown_texts.specs.Characters.{shown_text}
 use Rattle.shown_texts.specs.Names.{shortened}
 use Rattle.shown_texts.specs.Breaking.{broken}
 use Rattle.shown_texts.specs.Lanes.{own_notes, want_notes}
+use Rattle.shown_texts.specs.Levels.{level_text}
 use Rattle.shown_texts.specs.Pages.{Page, page_bytes}
 use Rattle.shown_texts.specs.declared.frame.Frame.{Frame}
 use Rattle.shown_texts.specs.declared.lane.Cell.{Cell}
@@ -45,6 +47,33 @@ broken_lines = refl
 -- of many blanks the first one alone does
 many_blanks : broken 5 0 2 (codes "abcde   f") ≡ codes "abcde " ∷ codes "    f" ∷ []
 many_blanks = refl
+
+-- ---- levels
+
+one_has_no_effect : level_text None (6 ∷ []) ≡ codes "locking: strict two-phase locking; isolation level (line 6) has no effect" ∷ []
+unfolding digits
+one_has_no_effect = refl
+
+no_level : level_text None [] ≡ []
+no_level = refl
+
+committed_alone : level_text (Some Committed) [] ≡ codes "isolation level: READ COMMITTED" ∷ []
+committed_alone = refl
+
+committed_but_for_one : level_text (Some Committed) (8 ∷ []) ≡ codes "isolation level: READ COMMITTED; SERIALIZABLE (line 8)" ∷ []
+unfolding digits
+committed_but_for_one = refl
+
+committed_but_for_two : level_text (Some Committed) (8 ∷ 10 ∷ []) ≡ codes "isolation level: READ COMMITTED; SERIALIZABLE (lines 8, 10)" ∷ []
+unfolding digits
+committed_but_for_two = refl
+
+serializable_alone : level_text (Some Serializable) [] ≡ codes "isolation level: SERIALIZABLE" ∷ []
+serializable_alone = refl
+
+serializable_but_for_one : level_text (Some Serializable) (7 ∷ []) ≡ codes "isolation level: SERIALIZABLE; READ COMMITTED (line 7)" ∷ []
+unfolding digits
+serializable_but_for_one = refl
 
 -- ---- the notes of a lane
 
@@ -109,6 +138,10 @@ nothing_told = refl
 
 -- ---- a session that skips a step, and one that loses a deadlock and waits at the end
 
+-- in a block
+abbrev in_block : Status
+in_block = InBlock Serializable
+
 abbrev moment : ℕ → Manner → ℕ → List Event → Status → Ending → Moment
 moment session manner step events status ending =
     record { session = session; manner = manner; step = Some step; events = events; changes = []; status = status; ending = ending; still = [] }
@@ -146,17 +179,18 @@ deadlock = record {
   statements =
       codes "UPDATE t SET v = v + 1 WHERE id = 1;" ∷ codes "UPDATE t SET v = v + 1 WHERE id = 2;" ∷ codes "COMMIT;"
       ∷ codes "UPDATE t SET v = v * 2 WHERE id = 2;" ∷ codes "UPDATE t SET v = v * 2 WHERE id = 1;" ∷ codes "COMMIT; SELECT * FROM t;" ∷ [];
-  level_lines = 8 ∷ 14 ∷ [];
+  level = None;
+  other_lines = 8 ∷ 14 ∷ [];
   shown = record {
-    begun = record { status = InBlock; locks = [] } ∷ record { status = InBlock; locks = [] } ∷ [];
+    begun = record { status = in_block; locks = [] } ∷ record { status = in_block; locks = [] } ∷ [];
     first = [];
     moments =
-        moment 0 IsSent 0 (event.Sent 0 ∷ event.Updated 1 ∷ event.Done ∷ []) InBlock Ended
-        ∷ moment 1 IsSent 3 (event.Sent 3 ∷ event.Updated 1 ∷ event.Done ∷ []) InBlock Ended
-        ∷ moment 0 IsSent 1 (event.Sent 1 ∷ event.Waiting ∷ []) InBlock (Awaits wants_two)
-        ∷ moment 0 IsNotSent 2 (event.NotSent 2 ∷ []) InBlock (Awaits wants_two)
+        moment 0 IsSent 0 (event.Sent 0 ∷ event.Updated 1 ∷ event.Done ∷ []) in_block Ended
+        ∷ moment 1 IsSent 3 (event.Sent 3 ∷ event.Updated 1 ∷ event.Done ∷ []) in_block Ended
+        ∷ moment 0 IsSent 1 (event.Sent 1 ∷ event.Waiting ∷ []) in_block (Awaits wants_two)
+        ∷ moment 0 IsNotSent 2 (event.NotSent 2 ∷ []) in_block (Awaits wants_two)
         ∷ moment 1 IsSent 4 (event.Sent 4 ∷ event.Failed Deadlock ∷ event.Done ∷ []) Broken (Loses ring)
-        ∷ moment 0 IsResumed 1 (event.Resumed ∷ event.Updated 1 ∷ event.Done ∷ []) InBlock Ended
+        ∷ moment 0 IsResumed 1 (event.Resumed ∷ event.Updated 1 ∷ event.Done ∷ []) in_block Ended
         ∷ moment 1 IsSent 5 (event.Sent 5 ∷ event.RolledBack ∷ event.Waiting ∷ []) Outside (Awaits wants_table) ∷ [];
     left =
         record {

@@ -14,6 +14,7 @@ use Rattle.lock_queues.specs.Reasons.{Want}
 use Rattle.events.specs.declared.event.Event.{Event}
 use Rattle.events.specs.declared.event.Event.TheVariants as event
 use Rattle.events.specs.declared.event.Fault.TheVariants.{Deadlock}
+use Rattle.bound_statements.specs.declared.statement.Level.TheVariants.{Serializable}
 use Rattle.machine_model.specs.declared.status.Status.{Status}
 use Rattle.machine_model.specs.declared.status.Status.TheVariants.{Outside, InBlock, Broken}
 use Rattle.line_moments.specs.declared.moment.Ending.{Ending}
@@ -35,6 +36,10 @@ holds session mode = record { session = session; reason = Holds mode }
 abbrev wants : Resource → Mode → List Edge → Want
 wants resource mode edges = record { resource = resource; mode = mode; asked = mode; has = None; edges = edges }
 
+-- in a block
+abbrev in_block : Status
+in_block = InBlock Serializable
+
 abbrev moment : ℕ → Manner → ℕ → List Event → Status → Ending → List Still → Moment
 moment session manner step events status ending still =
     record {
@@ -54,11 +59,11 @@ begun status = record { status = status; locks = [] }
 -- the first five moments: each writes or reads a row, and then both writers wait
 abbrev before : List Moment
 before =
-    moment 0 IsSent 0 (event.Sent 0 ∷ event.Updated 1 ∷ event.Done ∷ []) InBlock Ended []
-    ∷ moment 1 IsSent 2 (event.Sent 2 ∷ event.Updated 1 ∷ event.Done ∷ []) InBlock Ended []
-    ∷ moment 2 IsSent 4 (event.Sent 4 ∷ event.Row (Int (pos 50) ∷ []) ∷ event.Rows 1 ∷ event.Done ∷ []) InBlock Ended []
-    ∷ moment 0 IsSent 1 (event.Sent 1 ∷ event.Waiting ∷ []) InBlock (Awaits (wants (Row 0 (Int (pos 2))) Exclusive (holds 1 Exclusive ∷ []))) []
-    ∷ moment 1 IsSent 3 (event.Sent 3 ∷ event.Waiting ∷ []) InBlock (Awaits (wants (Row 0 (Int (pos 3))) Exclusive (holds 2 Share ∷ []))) []
+    moment 0 IsSent 0 (event.Sent 0 ∷ event.Updated 1 ∷ event.Done ∷ []) in_block Ended []
+    ∷ moment 1 IsSent 2 (event.Sent 2 ∷ event.Updated 1 ∷ event.Done ∷ []) in_block Ended []
+    ∷ moment 2 IsSent 4 (event.Sent 4 ∷ event.Row (Int (pos 50) ∷ []) ∷ event.Rows 1 ∷ event.Done ∷ []) in_block Ended []
+    ∷ moment 0 IsSent 1 (event.Sent 1 ∷ event.Waiting ∷ []) in_block (Awaits (wants (Row 0 (Int (pos 2))) Exclusive (holds 1 Exclusive ∷ []))) []
+    ∷ moment 1 IsSent 3 (event.Sent 3 ∷ event.Waiting ∷ []) in_block (Awaits (wants (Row 0 (Int (pos 3))) Exclusive (holds 2 Share ∷ []))) []
     ∷ []
 
 -- the fee waits for the whole table, the reader loses, and the others go on in turn
@@ -92,9 +97,10 @@ bank = record {
       ∷ codes "SELECT balance FROM account WHERE id = 3;"
       ∷ codes "SELECT sum(balance) FROM account; COMMIT;"
       ∷ codes "UPDATE account SET balance = balance - 1;" ∷ [];
-  level_lines = [];
+  level = None;
+  other_lines = [];
   shown = record {
-    begun = begun InBlock ∷ begun InBlock ∷ begun InBlock ∷ begun Outside ∷ [];
+    begun = begun in_block ∷ begun in_block ∷ begun in_block ∷ begun Outside ∷ [];
     first = [];
     moments = before ++ after;
     left = record {

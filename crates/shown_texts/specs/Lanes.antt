@@ -102,12 +102,12 @@ event_notes f steps m event = toned_notes f m.session m.ending (tone event) (wor
 -- the rail of a session that does not wait
 abbrev pub rail_of : Status → ℕ
 rail_of Outside = 32
-rail_of InBlock = 124
+rail_of (InBlock level) = 124
 rail_of Broken = 33
 
 abbrev pub done_rail : Status → ℕ
 done_rail Outside = 124
-done_rail InBlock = 124
+done_rail (InBlock level) = 124
 done_rail Broken = 33
 
 -- a moment of which nothing is told

@@ -1,7 +1,8 @@
 -- The page that shows one order.
 use Rattle.std.specs.Prelude.{ℕ, ◌+◌, ◌-◌, ◌/◌, max, nat_le, nat_lt, Bool, cond, ◌==◌}
-use Rattle.std.specs.Prelude.{List, [], ◌∷◌, ◌++◌, length, map, get_or, codes, decimal, flat_map, encode_utf8_all}
+use Rattle.std.specs.Prelude.{List, [], ◌∷◌, ◌++◌, length, map, get_or, codes, decimal, flat_map, encode_utf8_all, Option}
 use Rattle.std.specs.List.{join_by, list_any}
+use Rattle.bound_statements.specs.declared.statement.Level.{Level}
 use Rattle.lock_modes.specs.declared.value.Value.{Value}
 use Rattle.lock_queues.specs.declared.reason.Edge.{Edge}
 use Rattle.lock_queues.specs.Reasons.{Want}
@@ -23,7 +24,7 @@ use Rattle.shown_texts.specs.declared.lane.Cell.{Cell}
 use Rattle.shown_texts.specs.declared.lane.LaneRow.{LaneRow}
 
 -- what a page is made of: the path of the spec, the rank and the number of orders; the names of sessions and of steps, and the statements of each step on one
--- line; the lines of the file with a level that has no effect; and what is shown of the line
+-- line; the level that is asked for, if any, and the lines of the file with another one; and what is shown of the line
 pub record Page : Type 0 where
   pub path : List ℕ
   pub rank : ℕ
@@ -31,7 +32,8 @@ pub record Page : Type 0 where
   pub sessions : List (List ℕ)
   pub steps : List (List ℕ)
   pub statements : List (List ℕ)
-  pub level_lines : List ℕ
+  pub level : Option Level
+  pub other_lines : List ℕ
   pub shown : Shown
 
 -- ---- how wide its parts are
@@ -107,9 +109,9 @@ rank_text rank orders = codes ": rank " ++ (decimal rank ++ (codes " of " ++ dec
 abbrev pub title : Frame → Page → List ℕ
 title f p = shown_text p.path ++ (rank_text p.rank p.orders ++ wide_text (full_width f))
 
--- that levels have no effect, where there are any
+-- what is said of levels
 abbrev pub level_lines : Page → List (List ℕ)
-level_lines p = flat_map plain_lines (level_text p.level_lines)
+level_lines p = flat_map plain_lines (level_text p.level p.other_lines)
 
 -- the title, and the order beneath it
 abbrev pub top_lines : Frame → Page → List (List ℕ)

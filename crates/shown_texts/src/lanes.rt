@@ -20,7 +20,7 @@ fn rail_of(status: Status) -> char
 {
     match status {
         Status::Outside => ' ',
-        Status::InBlock => '|',
+        Status::InBlock(_) => '|',
         Status::Broken => '!',
     }
 }

@@ -346,7 +346,7 @@ fn done_rail(status: Status) -> char
     ensures { result ≡ spec.done_rail status }
 {
     match status {
-        Status::Outside | Status::InBlock => '|',
+        Status::Outside | Status::InBlock(_) => '|',
         Status::Broken => '!',
     }
 }

@@ -2,6 +2,7 @@
 
 use line_moments::Shown;
 use lock_modes::Text;
+use spec_levels::Levels;
 use std::marker::Model;
 
 /// What a page is made of. Sessions and steps stand at their numbers, from 0.
@@ -18,8 +19,8 @@ pub struct Page<'a> {
     pub steps: &'a [Text],
     /// The statements of each step, on one line.
     pub statements: &'a [Text],
-    /// The lines of the file with an isolation level that has no effect.
-    pub level_lines: &'a [usize],
+    /// Under which level the spec stands.
+    pub levels: &'a Levels,
     /// What is shown of the order.
     pub shown: &'a Shown,
 }
@@ -40,7 +41,8 @@ impl<'a> Model for Page<'a> {
       sessions = p.sessions.now;
       steps = p.steps.now;
       statements = p.statements.now;
-      level_lines = p.level_lines.now;
+      level = p.levels.now.asked;
+      other_lines = p.levels.now.other_lines.items;
       shown = p.shown.now;
     } };
 }

@@ -172,7 +172,7 @@ fn top_lines(
     Ok(lines)
 }
 
-/// Puts that levels have no effect behind other lines, where there are any.
+/// Puts what is said of levels behind other lines.
 fn put_levels(
     alloc: Global,
     lines: &mut Items<Items<char>>,
@@ -180,7 +180,7 @@ fn put_levels(
 ) -> Result<(), AllocError>
     ensures { OnOk result (lines.new ≡ lines.old ++ spec.level_lines page.now) }
 {
-    let texts = level_text(alloc, page.level_lines)?;
+    let texts = level_text(alloc, page.levels)?;
     put_plain(alloc, lines, texts.as_slice())
 }
 

@@ -9,6 +9,8 @@ use Rattle.std.specs.Fmt.{digit_glyph, digits, digits_onto}
 use Rattle.std.specs.List.{join_by, list_any}
 use Rattle.json.specs.Print.{escape_byte}
 use Rattle.json.proofs.Printed.Strings.{escape_byte_plain}
+use Rattle.bound_statements.specs.declared.statement.Level.{Level}
+use Rattle.bound_statements.specs.declared.statement.Level.TheVariants.{Serializable, Committed}
 use Rattle.lock_modes.specs.Rows.{Tuple}
 use Rattle.lock_modes.specs.declared.mode.Mode.{Mode}
 use Rattle.lock_modes.specs.declared.mode.Mode.TheVariants.{IntentShare, IntentExclusive, Share, ShareIntent, Exclusive}
@@ -36,6 +38,7 @@ use Rattle.line_moments.specs.declared.shown.Standing.{Standing}
 use Rattle.line_moments.specs.declared.shown.Standing.TheVariants.{HasEnded, IsOpen, HasFailed, StillWaits}
 use Rattle.shown_values.specs.Strings.{array_json, by_number, byte_text, escaped, is_markup, is_separator, separator_text, string_json}
 use Rattle.shown_values.specs.Words.{manner_json, mode_json, name_of, number_json, resource_json, status_json, told, line_json}
+use Rattle.shown_values.specs.Levels.{asked_json, level_word, levels_json}
 use Rattle.shown_values.specs.Moments.{change_json, edge_json, end_json, ending_json, going_json, has_json, hop_json, lock_json, moment_json}
 use Rattle.shown_values.specs.Moments.{reason_json, still_json, want_json}
 use Rattle.shown_values.specs.Page.{Sheet, begun_json, entry_json, left_json, numbers_json, open_from, open_json, order_json, page_json, shown_json, step_json, table_json}
@@ -139,7 +142,7 @@ mode-free Exclusive = refl
 
 status-free : (status : Status) → IsFree (status_json status)
 status-free Outside = refl
-status-free InBlock = refl
+status-free (InBlock level) = refl
 status-free Broken = refl
 
 manner-free : (manner : Manner) → IsFree (manner_json manner)
@@ -150,6 +153,19 @@ manner-free IsNotSent = refl
 pub number-free : (number : Option ℕ) → IsFree (number_json number)
 number-free None = refl
 number-free (Some number) = decimal-free number
+
+-- ---- levels
+
+word-free : (level : Level) → IsFree (level_word level)
+word-free Serializable = refl
+word-free Committed = refl
+
+asked-free : (level : Level) (lines : List ℕ) → IsFree (asked_json level lines)
+asked-free level lines = simp (list_any-append, word-free level, array-free decimal decimal-free lines)
+
+pub levels-free : (level : Option Level) (lines : List ℕ) → IsFree (levels_json level lines)
+levels-free None lines = refl
+levels-free (Some level) lines = asked-free level lines
 
 -- ---- moments
 
@@ -269,4 +285,11 @@ shown-free steps shown =
     )
 
 pub page-free : (sheet : Sheet) → IsFree (page_json sheet)
-page-free sheet = simp (list_any-append, order-free sheet, numbers-free sheet, shown-free sheet.step_names sheet.shown)
+page-free sheet =
+    simp (
+      list_any-append,
+      order-free sheet,
+      levels-free sheet.level sheet.other_lines,
+      numbers-free sheet,
+      shown-free sheet.step_names sheet.shown,
+    )

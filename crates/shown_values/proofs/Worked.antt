@@ -8,6 +8,7 @@ use Rattle.lock_modes.specs.declared.resource.Resource.TheVariants.{Table as Tab
 use Rattle.lock_modes.specs.declared.value.Value.TheVariants.{Int, Text}
 use Rattle.lock_queues.specs.declared.reason.Edge.{Edge}
 use Rattle.lock_queues.specs.declared.reason.Reason.TheVariants.{Holds, Ahead}
+use Rattle.bound_statements.specs.declared.statement.Level.TheVariants.{Serializable, Committed}
 use Rattle.machine_model.specs.declared.status.Status.TheVariants.{Outside, InBlock, Broken}
 use Rattle.events.specs.declared.event.Event.TheVariants.{Sent, Failed, Done, NotSent}
 use Rattle.events.specs.declared.event.Fault.TheVariants.{Deadlock}
@@ -17,8 +18,9 @@ use Rattle.line_moments.specs.declared.moment.Manner.TheVariants.{IsSent, IsNotS
 use Rattle.line_moments.specs.declared.shown.Left.{Left}
 use Rattle.line_moments.specs.declared.shown.Standing.TheVariants.{HasEnded, IsOpen, HasFailed, StillWaits}
 use Rattle.shown_values.specs.Strings.{array_json, escaped, string_json}
+use Rattle.shown_values.specs.Levels.{levels_json}
 use Rattle.shown_values.specs.Moments.{moment_json, want_json}
-use Rattle.shown_values.specs.Page.{left_json, open_from, open_json, page_json}
+use Rattle.shown_values.specs.Page.{Sheet, left_json, open_from, open_json, page_json}
 
 -- what would end a script, and a reference
 markup : string_json (codes "</script>&amp;") ≡ codes "\"\\u003c/script\\u003e\\u0026amp;\""
@@ -82,7 +84,7 @@ not_sent : moment_json (accounts ∷ []) (codes "a1" ∷ codes "b2" ∷ [])
       step = Some 1;
       events = NotSent 1 ∷ [];
       changes = [];
-      status = InBlock;
+      status = InBlock Serializable;
       ending =
           Awaits (record { resource = RowOf 0 (Text (codes "ada")); mode = Exclusive; asked = Exclusive; has = None; edges = holds 0 Exclusive ∷ [] });
       still = record { session = 2; edges = is_ahead 1 Exclusive ∷ [] } ∷ [];
@@ -106,40 +108,65 @@ left_open : array_json open_json
 unfolding digits
 left_open = refl
 
+-- a level is asked for, and some lines have another one
+committed_but_for_two : levels_json (Some Committed) (8 ∷ 10 ∷ []) ≡ codes ",\"levels\":{\"default\":\"read-committed\",\"other_lines\":[8,10]}"
+unfolding digits
+committed_but_for_two = refl
+
+serializable_alone : levels_json (Some Serializable) [] ≡ codes ",\"levels\":{\"default\":\"serializable\",\"other_lines\":[]}"
+serializable_alone = refl
+
+-- lines with a level that has no effect are not told
+no_level : levels_json None (3 ∷ 12 ∷ []) ≡ []
+no_level = refl
+
 -- the one order of a file with one step that has no statement
-one_step : page_json
-    (record {
-      name = codes "one.spec";
-      rank = 0;
-      orders = 1;
-      session_names = codes "a" ∷ [];
-      step_names = codes "s" ∷ [];
-      step_sessions = 0 ∷ [];
-      statements = [] ∷ [];
-      line = 0 ∷ [];
-      shown =
-          record {
-            begun = record { status = Outside; locks = [] } ∷ [];
-            first = [];
-            moments =
-                record {
-                  session = 0;
-                  manner = IsSent;
-                  step = Some 0;
-                  events = Sent 0 ∷ Done ∷ [];
-                  changes = [];
-                  status = Outside;
-                  ending = Ended;
-                  still = [];
-                } ∷ [];
-            left = [];
-            standings = HasEnded ∷ [];
-          };
-    })
+abbrev one_step : Sheet
+one_step = record {
+  name = codes "one.spec";
+  rank = 0;
+  orders = 1;
+  level = None;
+  other_lines = [];
+  session_names = codes "a" ∷ [];
+  step_names = codes "s" ∷ [];
+  step_sessions = 0 ∷ [];
+  statements = [] ∷ [];
+  line = 0 ∷ [];
+  shown = record {
+    begun = record { status = Outside; locks = [] } ∷ [];
+    first = [];
+    moments =
+        record {
+          session = 0;
+          manner = IsSent;
+          step = Some 0;
+          events = Sent 0 ∷ Done ∷ [];
+          changes = [];
+          status = Outside;
+          ending = Ended;
+          still = [];
+        } ∷ [];
+    left = [];
+    standings = HasEnded ∷ [];
+  };
+}
+
+one_step_json : page_json one_step
     ≡ codes "{\"format\":1,\"name\":\"one.spec\",\"rank\":0,\"orders\":1,"
     ++ codes "\"sessions\":[\"a\"],\"steps\":[{\"name\":\"s\",\"session\":0,\"sql\":\"\"}],\"order\":[0],"
     ++ codes "\"begun\":[{\"status\":\"out\",\"locks\":[]}],\"first\":[],"
     ++ codes "\"moments\":[{\"session\":0,\"kind\":\"sent\",\"step\":0,\"told\":[\"done\"],\"locks\":[],\"status\":\"out\",\"still\":[]}],"
     ++ codes "\"left\":[],\"open\":[]}\n"
 unfolding digits escaped escape_byte
-one_step = refl
+one_step_json = refl
+
+-- the same where a level is asked for
+committed_step_json : page_json (record one_step { level = Some Committed })
+    ≡ codes "{\"format\":1,\"name\":\"one.spec\",\"rank\":0,\"orders\":1,\"levels\":{\"default\":\"read-committed\",\"other_lines\":[]},"
+    ++ codes "\"sessions\":[\"a\"],\"steps\":[{\"name\":\"s\",\"session\":0,\"sql\":\"\"}],\"order\":[0],"
+    ++ codes "\"begun\":[{\"status\":\"out\",\"locks\":[]}],\"first\":[],"
+    ++ codes "\"moments\":[{\"session\":0,\"kind\":\"sent\",\"step\":0,\"told\":[\"done\"],\"locks\":[],\"status\":\"out\",\"still\":[]}],"
+    ++ codes "\"left\":[],\"open\":[]}\n"
+unfolding digits escaped escape_byte
+committed_step_json = refl

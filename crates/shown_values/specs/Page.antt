@@ -1,5 +1,6 @@
 -- The JSON of what is shown of an order.
-use Rattle.std.specs.Prelude.{ℕ, ◌+◌, List, [], ◌∷◌, ◌++◌, codes, decimal, zip}
+use Rattle.std.specs.Prelude.{ℕ, ◌+◌, List, [], ◌∷◌, ◌++◌, Option, codes, decimal, zip}
+use Rattle.bound_statements.specs.declared.statement.Level.{Level}
 use Rattle.lock_modes.specs.Rows.{Tuple}
 use Rattle.lock_modes.specs.declared.value.Value.{Value}
 use Rattle.line_moments.specs.declared.shown.Begun.{Begun}
@@ -10,6 +11,7 @@ use Rattle.line_moments.specs.declared.shown.Standing.TheVariants.{HasEnded, IsO
 use Rattle.shown_values.specs.declared.page.Page.{Page}
 use Rattle.shown_values.specs.Strings.{array_json, string_json}
 use Rattle.shown_values.specs.Words.{name_of, status_json, tuple_json}
+use Rattle.shown_values.specs.Levels.{levels_json}
 use Rattle.shown_values.specs.Moments.{lock_json, moment_json}
 
 -- a step by its name, its session and its statements
@@ -50,11 +52,14 @@ open_from session standings = opens_by open_of session standings
 abbrev pub open_json : ℕ × List ℕ → List ℕ
 open_json pair = codes "[" ++ decimal pair.0 ++ codes "," ++ pair.1 ++ codes "]"
 
--- what is told of an order: by the numbers of sessions and steps their names, and of each step its session and its statements
+-- what is told of an order: the level that is asked for, if any, and the lines of the file with another one; by the numbers of sessions and steps their
+-- names, and of each step its session and its statements
 pub record Sheet : Type 0 where
   pub name : List ℕ
   pub rank : ℕ
   pub orders : ℕ
+  pub level : Option Level
+  pub other_lines : List ℕ
   pub session_names : List (List ℕ)
   pub step_names : List (List ℕ)
   pub step_sessions : List ℕ
@@ -68,6 +73,8 @@ sheet_of page =
       name = page.name.now;
       rank = page.rank;
       orders = page.orders;
+      level = page.levels.now.asked;
+      other_lines = page.levels.now.other_lines.items;
       session_names = page.session_names.now;
       step_names = page.step_names.now;
       step_sessions = page.step_sessions.now;
@@ -97,4 +104,5 @@ shown_json steps shown =
     ++ (codes ",\"left\":" ++ array_json left_json shown.left) ++ (codes ",\"open\":" ++ array_json open_json (open_from 0 shown.standings))
 
 abbrev pub page_json : Sheet → List ℕ
-page_json sheet = order_json sheet ++ numbers_json sheet ++ shown_json sheet.step_names sheet.shown ++ codes "}\n"
+page_json sheet =
+    order_json sheet ++ levels_json sheet.level sheet.other_lines ++ numbers_json sheet ++ shown_json sheet.step_names sheet.shown ++ codes "}\n"

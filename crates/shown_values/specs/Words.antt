@@ -25,7 +25,7 @@ mode_json Exclusive = codes "\"X\""
 
 abbrev pub status_json : Status → List ℕ
 status_json Outside = codes "\"out\""
-status_json InBlock = codes "\"in\""
+status_json (InBlock level) = codes "\"in\""
 status_json Broken = codes "\"failed\""
 
 abbrev pub manner_json : Manner → List ℕ

@@ -2,6 +2,7 @@
 #![tactic(auto)]
 
 mod laws;
+mod levels;
 mod moments;
 mod page;
 mod show;
@@ -10,6 +11,7 @@ mod texts;
 mod words;
 
 pub use laws::{pages_are_free, strings_are_whole};
+pub use levels::{level_word, push_levels, push_line_numbers};
 pub use moments::push_lines;
 pub use page::Page;
 pub use show::{push_indices, push_names, push_standing, push_steps, push_table, show_json};

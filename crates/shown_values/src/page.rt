@@ -2,6 +2,7 @@
 
 use line_moments::Shown;
 use lock_modes::Text;
+use spec_levels::Levels;
 
 /// What is told of an order.
 #[derive(Clone, Copy)]
@@ -12,6 +13,8 @@ pub struct Page<'a> {
     pub rank: u64,
     /// How many orders the spec has.
     pub orders: u64,
+    /// Under which level the spec stands.
+    pub levels: &'a Levels,
     /// The name of each session at its number, from 0.
     pub session_names: &'a [Text],
     /// The name of each step at its number, from 0, over all sessions.

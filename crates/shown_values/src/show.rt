@@ -5,6 +5,7 @@ ghost use Rattle.shown_values.specs.Strings.{array_json, string_json};
 ghost use Rattle.shown_values.specs.Moments.{lock_json};
 ghost use Rattle.shown_values.specs.Page as spec;
 
+use crate::levels::push_levels;
 use crate::moments::{push_lock, push_moments};
 use crate::page::Page;
 use crate::strings::{
@@ -23,6 +24,7 @@ pub fn show_json(alloc: Global, page: &Page<'_>) -> Result<Vec<u8>, AllocError>
 {
     let mut out = Vec::new(alloc);
     push_order(page, &mut out)?;
+    push_levels(page.levels, &mut out)?;
     push_numbers(page, &mut out)?;
     push_shown(page.step_names, page.shown, &mut out)?;
     push("}\n", &mut out)?;

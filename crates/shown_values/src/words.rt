@@ -63,7 +63,7 @@ fn status_word(status: Status) -> &'static str
 {
     match status {
         Status::Outside => "\"out\"",
-        Status::InBlock => "\"in\"",
+        Status::InBlock(_) => "\"in\"",
         Status::Broken => "\"failed\"",
     }
 }

@@ -1,30 +1,31 @@
 -- The statements of a spec file fit the tables that it declares.
-use Rattle.std.proofs.Common.{false, ◌≡◌, refl, sym, subst, ◌∙◌, ℕ, suc, ◌<◌, List, [], ◌∷◌, ◌++◌, length, map, All, get_or, Option, Some, None, Ok, Err, arith}
+use Rattle.std.proofs.Common.{false, ◌≡◌, refl, sym, subst, ◌∙◌, ℕ, suc, ◌<◌, List, [], ◌∷◌, ◌++◌, length, All, get_or, Option, Some, None, Ok, Err, arith}
 use Rattle.std.proofs.Common.{append_assoc, length-append}
 use Rattle.std.proofs.lemmas.List.{get_or_append_left}
 use Rattle.std.proofs.lemmas.List.Elements.{All-nil, All-cons, All-append, All-map, All-head, All-tail}
 use Rattle.spec_reader.specs.Tree.{BlockTree, SessionTree, SpecTree}
 use Rattle.sql_grammar.specs.Tree as tree
 use Rattle.sql_grammar.specs.Tree.{Chain}
-use Rattle.sql_grammar.specs.Text.{StatementAt}
 use Rattle.sql_grammar.specs.declared.statement.TablePart.{TablePart}
 use Rattle.bound_statements.specs.declared.statement.Bound.{Bound}
 use Rattle.bound_statements.specs.declared.statement.Bound.TheVariants.{Select, Insert, Update, Delete, Begin, Commit, Rollback, Lock, SetVariable}
+use Rattle.bound_statements.specs.declared.statement.Level.{Level}
 use Rattle.binding_model.specs.declared.error.BindErrorKind.{BindErrorKind}
-use Rattle.binding_model.specs.declared.tables.Column.{Column}
 use Rattle.binding_model.specs.declared.tables.Table.{Table}
-use Rattle.bound_specs.specs.Binding.{IsFileOf, read_block, statement_at, bind_block, session_setup, step, BoundSession, session, then_more, sent}
-use Rattle.bound_specs.specs.Binding.{main_statement, main_at, main_setup, offset_in, numbered, all_steps, made_file, shaped, bound_file}
+use Rattle.bound_specs.specs.Binding.{IsFileAt, IsFileOf, read_block, statement_at, bind_block, session_setup, step, BoundSession, session, then_more, sent}
+use Rattle.bound_specs.specs.Binding.{main_statement, main_at, main_setup, offset_in, numbered, all_steps, made_file, shaped, written_file, bound_at}
 use Rattle.bound_specs.specs.Binding.{declared as declared_by}
 use Rattle.bound_specs.specs.Fits.{Takes, ColumnOf, RowFits, OfTable, Fits, SpecFits}
+use Rattle.bound_specs.specs.Levels.{levelled_file}
 use Rattle.bound_specs.specs.Lines.{orders_of}
 use Rattle.binding_model.specs.Names.{Name, list_of}
 use Rattle.binding_model.specs.Refusals.{Bind, ◌>>=◌, refuse, each}
-use Rattle.bound_specs.specs.Spec.{Step, Spec, SpecFile}
+use Rattle.bound_specs.specs.Spec.{Step, SpecFile}
 use Rattle.binding_model.specs.Statements.{sets_key, statement}
-use Rattle.binding_model.specs.Tables.{no_table, key_column, create, create_with, refusal, joined, part_columns, part_keys, declared}
+use Rattle.binding_model.specs.Tables.{no_table, key_column, create, refusal, joined, part_columns, part_keys, declared}
 use Rattle.spec_binding.proofs.FitLemmas.{then-both, each-bound, statement-fits}
 use Rattle.bound_specs.proofs.FileLemmas.{bind}
+use Rattle.spec_binding.proofs.LevelledLemmas.{fit-levelled}
 use Rattle.spec_binding.proofs.SentLemmas.{IfBound, then-bound, bound-is}
 
 -- ---- more tables
@@ -55,7 +56,7 @@ fits-more tables extra (Update n key sets c) h =
     of-more tables extra n (λ t. Takes (ColumnOf t) (Update n key sets c) × (sets_key (key_column t) sets ≡ false)) h
 fits-more tables extra (Delete n key c) h = of-more tables extra n (λ t. Takes (ColumnOf t) (Delete n key c)) h
 fits-more tables extra (Lock n mode r) h = longer tables extra n h
-fits-more tables extra Begin h = tt
+fits-more tables extra (Begin level) h = tt
 fits-more tables extra Commit h = tt
 fits-more tables extra Rollback h = tt
 fits-more tables extra SetVariable h = tt
@@ -158,12 +159,11 @@ steps-fit tables i (s ∷ ss) h =
 
 -- ---- the file
 
--- the statements of a spec fit the tables that its main setups declare
-pub files-fit : (text : List ℕ) (file : SpecFile) → (is : IsFileOf text file) → (main : List Table × List (List Bound))
-    × ((declared_by main_setup [] is.tree.front.setups ≡ Ok main) × SpecFits main.0 file.run)
-files-fit text file is =
-    let tree = is.tree in
-    let a = bind (shaped (orders_of tree)) _ file is.is_bound in
+-- the statements of a spec as it is written fit the tables that its main setups declare
+written-fit : (text : List ℕ) (tree : SpecTree) (file : SpecFile) → written_file text tree ≡ Ok file → (main : List Table × List (List Bound))
+    × ((declared_by main_setup [] tree.front.setups ≡ Ok main) × SpecFits main.0 file.run)
+written-fit text tree file is_bound =
+    let a = bind (shaped (orders_of tree)) _ file is_bound in
     let b = bind (declared_by main_setup [] tree.front.setups) _ file a.1.1 in
     let main = b.0 in
     let c = bind (each (session main.0) tree.sessions) _ file b.1.1 in
@@ -182,3 +182,20 @@ files-fit text file is =
         }),
       ),
     )
+
+at-fit : (text : List ℕ) (tree : SpecTree) (asked : Option Level) (file : SpecFile) → bound_at asked text tree ≡ Ok file → (main : List Table × List (List Bound))
+    × ((declared_by main_setup [] tree.front.setups ≡ Ok main) × SpecFits main.0 file.run)
+at-fit text tree asked file is_bound =
+    let a = bind (written_file text tree) _ file is_bound in
+    let same : levelled_file asked a.0 ≡ file = cc (a.1.1) in
+    let written = written-fit text tree a.0 a.1.0 in
+    (written.0, (written.1.0, subst (λ (f : SpecFile). SpecFits written.0.0 f.run) same (fit-levelled written.0.0 asked a.0.run written.1.1)))
+
+-- at each level, and where none is asked for
+pub files-fit-at : (text : List ℕ) (file : SpecFile) → (is : IsFileAt text file) → (main : List Table × List (List Bound))
+    × ((declared_by main_setup [] is.tree.front.setups ≡ Ok main) × SpecFits main.0 file.run)
+files-fit-at text file is = at-fit text is.tree file.asked file is.is_bound
+
+pub files-fit : (text : List ℕ) (file : SpecFile) → (is : IsFileOf text file) → (main : List Table × List (List Bound))
+    × ((declared_by main_setup [] is.tree.front.setups ≡ Ok main) × SpecFits main.0 file.run)
+files-fit text file is = at-fit text is.tree None file is.is_bound

@@ -21,7 +21,8 @@ use Rattle.bound_specs.specs.declared.TheConstants.{MAX_LINED_STEPS}
 use Rattle.binding_model.specs.declared.tables.Table.{Table}
 use Rattle.bound_specs.specs.Spec.{Step, Spec, SpecFile, counts_of, steps_of, queues_from, queues_of, step_limit, IsLine, IsStep, IsReady, AllHaveKeys}
 use Rattle.bound_specs.specs.Spec.{AllAreShort}
-use Rattle.bound_specs.specs.Binding.{BoundSession, session, declared, main_setup, numbered, all_steps, made_file, shaped, bound_file, IsFileOf}
+use Rattle.bound_specs.specs.Binding.{BoundSession, session, declared, main_setup, numbered, all_steps, made_file, shaped, written_file, IsFileAt, IsFileOf}
+use Rattle.bound_specs.specs.Levels.{levelled_file}
 use Rattle.bound_specs.specs.Lines.{counts_in, step_names, then_some, all_some, step_number, numbered_line, lines_by, orders_of}
 use Rattle.binding_model.specs.Refusals.{Bind, ◌>>=◌, each}
 use Rattle.bound_specs.specs.declared.orders.Orders.{Orders}
@@ -31,6 +32,7 @@ use Rattle.bound_specs.specs.Orders.{IsOrderOf}
 use Rattle.bound_specs.specs.Views.{file_of, IsKept}
 use Rattle.bound_specs.proofs.FileLemmas.{bind, each-length}
 use Rattle.spec_binding.specs.Bindings.{FitsCounts}
+use Rattle.spec_binding.proofs.LevelledLemmas.{run-queues, ready-levelled}
 use Rattle.spec_binding.proofs.SentLemmas.{IsSent, AllSent, position-below, each-All, each-told, session-sent, setups-sent}
 
 all-keys : (bs : List Bound) → All IsSent bs → All HasKeys bs
@@ -316,7 +318,7 @@ few-sessions tree lines tables ss o e = omega (
 -- a file is bound where its orders, its main setups and its sessions are
 bound-made : (text : List ℕ) (tree : SpecTree) (lines : List (List ℕ)) (main : List Table × List (List Bound)) (ss : List BoundSession)
     → shaped (orders_of tree) ≡ Ok lines → declared main_setup [] tree.front.setups ≡ Ok main → each (session main.0) tree.sessions ≡ Ok ss
-    → bound_file text tree ≡ Ok (made_file text tree lines main.1 ss)
+    → written_file text tree ≡ Ok (made_file text tree lines main.1 ss)
 bound-made text tree lines main ss o m e =
     ap (λ (r : Bind (List (List ℕ))). r >>= λ ls. (declared main_setup [] tree.front.setups >>= λ x. (each (session x.0) tree.sessions >>= λ us.
     Ok (made_file text tree ls x.1 us)))) o
@@ -325,30 +327,37 @@ bound-made text tree lines main ss o m e =
 
 pub kept : (parts : Parts) (text : List ℕ) (tree : SpecTree) → IsSpec text tree
     → (lines : List (List ℕ)) (main : List Table × List (List Bound)) (ss : List BoundSession)
-    → file_of parts ≡ made_file text tree lines main.1 ss
+    → file_of parts ≡ levelled_file parts.levels (made_file text tree lines main.1 ss)
     → shaped (orders_of tree) ≡ Ok lines → declared main_setup [] tree.front.setups ≡ Ok main → each (session main.0) tree.sessions ≡ Ok ss
     → FitsCounts (counts_in tree.sessions) parts.orders → IsKept parts
 kept parts text tree is_spec lines main ss made o m e fits =
     let counts = counts-made text tree lines main.1 ss (sessions-told main.0 tree.sessions ss e) (each-length (session main.0) tree.sessions ss e) in
     let file = file_of parts in
-    let bound : IsFileOf text (made_file text tree lines main.1 ss) = record {
+    let written = made_file text tree lines main.1 ss in
+    let bound : IsFileAt text (levelled_file parts.levels written) = record {
       tree = tree;
       is_spec = is_spec;
-      is_bound = bound-made text tree lines main ss o m e;
+      is_bound = ap (λ (r : Bind SpecFile). r >>= λ f. Ok (levelled_file parts.levels f)) (bound-made text tree lines main ss o m e);
     } in
+    let queues : queues_of file.run ≡ queues_of written.run = ap (λ (f : SpecFile). queues_of f.run) made ∙ run-queues parts.levels written.run in
     record {
-      is_file = subst (λ (f : SpecFile). IsFileOf f.text f) (sym made) bound;
-      ready = subst IsReady (sym made) (file-ready text tree lines main ss (some_of (orders_of tree) lines o) m e);
-      orders = order_of parts.orders file.run (counts_in tree.sessions) fits (counts ∙ ap (λ (f : SpecFile). counts_of (queues_of f.run)) (sym made));
+      is_file = subst (λ (f : SpecFile). IsFileAt f.text f) (sym made) bound;
+      ready = subst IsReady (sym made) (ready-levelled parts.levels written (file-ready text tree lines main ss (some_of (orders_of tree) lines o) m e));
+      orders = order_of parts.orders file.run (counts_in tree.sessions) fits (counts ∙ ap counts_of (sym queues));
     }
 
 -- the file of a text is ready to be run
-pub file-is-ready : (text : List ℕ) (file : SpecFile) → IsFileOf text file → IsReady file
-file-is-ready text file is =
-    let tree = is.tree in
-    let a = bind (shaped (orders_of tree)) _ file is.is_bound in
+written-is-ready : (text : List ℕ) (tree : SpecTree) (file : SpecFile) → written_file text tree ≡ Ok file → IsReady file
+written-is-ready text tree file is_bound =
+    let a = bind (shaped (orders_of tree)) _ file is_bound in
     let b = bind (declared main_setup [] tree.front.setups) _ file a.1.1 in
     let main = b.0 in
     let c = bind (each (session main.0) tree.sessions) _ file b.1.1 in
     let same : made_file text tree a.0 main.1 c.0 ≡ file = cc (c.1.1) in
     subst IsReady same (file-ready text tree a.0 main c.0 (some_of (orders_of tree) a.0 a.1.0) b.1.0 c.1.0)
+
+pub file-is-ready : (text : List ℕ) (file : SpecFile) → IsFileOf text file → IsReady file
+file-is-ready text file is =
+    let a = bind (written_file text is.tree) _ file is.is_bound in
+    let same : levelled_file None a.0 ≡ file = cc (a.1.1) in
+    subst IsReady same (ready-levelled None a.0 (written-is-ready text is.tree a.0 a.1.0))

@@ -5,5 +5,6 @@ pub mod RowLemmas
 pub mod FitLemmas
 pub mod FileFitLemmas
 pub mod SentLemmas
+pub mod LevelledLemmas
 pub mod FileLemmas
 pub mod MemoryLemmas

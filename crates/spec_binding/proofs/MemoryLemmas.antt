@@ -21,14 +21,17 @@ use Rattle.sql_grammar.specs.declared.statement.SortKey.{SortKey as Sorted}
 use Rattle.sql_grammar.specs.declared.statement.TablePart.{TablePart}
 use Rattle.bound_statements.specs.declared.statement.Bound.{Bound}
 use Rattle.bound_statements.specs.declared.statement.Bound.TheVariants.{Insert, Select, Update, Delete}
+use Rattle.bound_statements.specs.declared.statement.Level.{Level}
 use Rattle.binding_model.specs.declared.error.BindError.{BindError}
 use Rattle.binding_model.specs.declared.error.BindErrorKind.{BindErrorKind}
 use Rattle.binding_model.specs.declared.error.BindErrorKind.TheVariants.{Sql, UnknownTable, UnknownColumn, TypeMismatch, KeyChanged, DuplicateTable, WrongCount}
 use Rattle.binding_model.specs.declared.joint.Joint.TheVariants.{All}
 use Rattle.binding_model.specs.declared.tables.Table.{Table}
 use Rattle.bound_specs.specs.Binding.{offset_in, read_text, read_at, read_block, statement_at, bind_block, session_setup, step, session, then_more, declared}
-use Rattle.bound_specs.specs.Binding.{sent, main_statement, main_at, main_setup, shaped, bound_file}
+use Rattle.bound_specs.specs.Binding.{sent, main_statement, main_at, main_setup, shaped, written_file, bound_at, bound_file}
+use Rattle.bound_specs.specs.Levels.{levelled_file}
 use Rattle.bound_specs.specs.Lines.{orders_of}
+use Rattle.bound_specs.specs.Spec.{SpecFile}
 use Rattle.binding_model.specs.Names.{Name, head, tail, list_of, repeats}
 use Rattle.binding_model.specs.Refusals.{Bind, ◌>>=◌, refuse, unless, with_front, each, IsNamed}
 use Rattle.binding_model.specs.Statements.{places, at_places, rows_miscount, set_columns, sets_key, row_columns, row_values, insert, aggregate, output, sort_key, lock_of}
@@ -262,12 +265,23 @@ shaped-named : (o : Option (List (List ℕ))) → Named (shaped o)
 shaped-named None = tt
 shaped-named (Some lines) = tt
 
-pub file-named : (text : List ℕ) (file : SpecTree) → Named (bound_file text file)
-file-named text file =
+written-named : (text : List ℕ) (file : SpecTree) → Named (written_file text file)
+written-named text file =
     then-named (shaped (orders_of file)) _ (shaped-named (orders_of file)) (λ lines.
     then-named (declared main_setup [] file.front.setups) _ (declared-named main_setup main_setup-named [] file.front.setups) (λ main.
     then-named (each (session main.0) file.sessions) _ (each-named (session main.0) (session-named main.0) file.sessions) (λ ss. tt)))
 
+pub file-named : (text : List ℕ) (file : SpecTree) → Named (bound_file text file)
+file-named text file = then-named (written_file text file) _ (written-named text file) (λ f. tt)
+
 -- so no refusal of reading SQL is
 pub refused_sql : (text : List ℕ) (file : SpecTree) (e : BindError) → bound_file text file ≡ Err e → e.kind ≢ Sql kind.NoMemory
 refused_sql text file e told h = subst IsNamed h (subst Named told (file-named text file)) refl
+
+-- a file is refused at each level for what it is refused for where none is asked for
+refused_by : (r : Bind SpecFile) (f g : SpecFile → SpecFile) (e : BindError) → (r >>= λ x. Ok (f x)) ≡ Err e → (r >>= λ x. Ok (g x)) ≡ Err e
+refused_by (Ok x) f g e told = absurd (cc told)
+refused_by (Err e') f g e told = told
+
+pub refused_at : (asked : Option Level) (text : List ℕ) (file : SpecTree) (e : BindError) → bound_at asked text file ≡ Err e → bound_file text file ≡ Err e
+refused_at asked text file e told = refused_by (written_file text file) (levelled_file asked) (levelled_file None) e told

@@ -7,7 +7,7 @@ use Rattle.std.proofs.lemmas.Bool.{ltb-true}
 use Rattle.std.proofs.lemmas.List.{length-map}
 use Rattle.std.proofs.lemmas.List.Elements.{All-nil, All-cons, All-append, All-map, All-head, All-tail}
 use Rattle.lock_modes.specs.declared.mode.Mode.{Mode}
-use Rattle.lock_modes.specs.declared.mode.Mode.TheVariants.{IntentShare, IntentExclusive, Share, Exclusive}
+use Rattle.lock_modes.specs.declared.mode.Mode.TheVariants.{IntentExclusive, Exclusive}
 use Rattle.lock_modes.specs.declared.value.Value.{Value}
 use Rattle.spec_reader.specs.Tree.{BlockTree, SessionTree}
 use Rattle.sql_grammar.specs.declared.TheConstants.{MAX_ROWS}

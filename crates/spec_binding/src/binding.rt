@@ -9,13 +9,15 @@ ghost use Rattle.sql_grammar.specs.declared.error.SqlErrorKind.TheVariants as sq
 ghost use Rattle.bound_specs.specs.Orders.{lines_of};
 ghost use Rattle.spec_binding.specs.Bindings.{bound_session, FitsCounts};
 ghost use Rattle.bound_specs.specs.Lines.{all_some, numbered_line, counts_in, step_names, session_names, lines_by, orders_of};
-ghost use Rattle.bound_specs.specs.Binding.{numbered, all_steps, shaped, bound_file};
+ghost use Rattle.bound_specs.specs.Binding.{numbered, all_steps, shaped, bound_at, bound_file};
+ghost use Rattle.bound_specs.specs.Levels.{levelled_block, levelled_step};
 ghost use Rattle.binding_model.specs.Refusals.{Binds};
 
 use crate::blocks::{BoundSession, sessions, setups};
 use crate::shapes::{lines, shape, total_steps};
 use binding_model::{BindError, BindErrorKind, BindStop, refused};
 use bound_specs::{Block, Line, MAX_LINED_STEPS, Orders, Parts, Spec, Step};
+use bound_statements::Level;
 use lock_modes::Text;
 use perm_ranks::{MAX_SESSIONS, MAX_STEPS};
 use spec_reader::{
@@ -157,9 +159,39 @@ fn all_steps(
     Ok((steps, setups))
 }
 
-/// Binds what a spec file says: its main setups in order, and then each session's setup and steps.
-fn bound(alloc: Global, text: &SpecText) -> Result<Spec, BindStop>
-    ensures { Binds (λ spec. spec) result (bound_file (string_bytes text.now.text) (spec_tree text.now)) }
+/// The steps of statements as they are written, where this level is asked for, or none.
+fn levelled_steps(
+    alloc: Global,
+    steps: Vec<Step>,
+    asked: Option<Level>,
+) -> Result<Vec<Step>, AllocError>
+    ensures { IfOk result (λ all. all.items ≡ map (levelled_step asked) steps.items) }
+{
+    let mut all = Vec::new(alloc);
+    for step in steps {
+        all.push(step.levelled(alloc, asked)?)?;
+    }
+    Ok(all)
+}
+
+/// The blocks of statements as they are written, where this level is asked for, or none.
+fn levelled_blocks(
+    alloc: Global,
+    blocks: Vec<Block>,
+    asked: Option<Level>,
+) -> Result<Vec<Block>, AllocError>
+    ensures { IfOk result (λ all. all.items ≡ map (levelled_block asked) blocks.items) }
+{
+    let mut all = Vec::new(alloc);
+    for block in blocks {
+        all.push(block.levelled(alloc, asked)?)?;
+    }
+    Ok(all)
+}
+
+/// Binds what a spec file says: its main setups in order, and then each session's setup and steps, where this level is asked for, or none.
+fn bound(alloc: Global, text: &SpecText, levels: Option<Level>) -> Result<Spec, BindStop>
+    ensures { Binds (λ spec. spec) result (bound_at levels (string_bytes text.now.text) (spec_tree text.now)) }
 {
     text.known();
     let step_names = step_names(alloc, &text.sessions)?;
@@ -167,7 +199,10 @@ fn bound(alloc: Global, text: &SpecText) -> Result<Spec, BindStop>
     let mut tables = Vec::new(alloc);
     let setups = setups(alloc, &mut tables, &text.front.setups)?;
     let bound = sessions(alloc, &tables, &text.sessions)?;
-    let (steps, session_setups) = all_steps(alloc, bound)?;
+    let (written_steps, written_setups) = all_steps(alloc, bound)?;
+    let steps = levelled_steps(alloc, written_steps, levels)?;
+    let session_setups = levelled_blocks(alloc, written_setups, levels)?;
+    let setups = levelled_blocks(alloc, setups, levels)?;
     let session_names = session_names(alloc, &text.sessions)?;
     let copy = String::from_str(alloc, &text.text)?;
     Ok(Spec::from_parts(Parts {
@@ -179,6 +214,7 @@ fn bound(alloc: Global, text: &SpecText) -> Result<Spec, BindStop>
         setups,
         session_setups,
         orders,
+        levels,
     }))
 }
 
@@ -187,7 +223,7 @@ const NO_MEMORY: BindError = BindError {
     offset: 0,
 };
 
-/// Binds a spec file that is read: its statements speak of tables and columns by their numbers, and its lines of steps by theirs.
+/// Binds a spec file that is read: its statements speak of tables and columns by their numbers, and its lines of steps by theirs. Levels are not asked for.
 ///
 /// Each name is looked for among the tables, columns or steps before it in turn, which a file of 65,536 bytes keeps short.
 pub fn bind(alloc: Global, text: &SpecText) -> Result<Spec, BindError>
@@ -198,7 +234,19 @@ pub fn bind(alloc: Global, text: &SpecText) -> Result<Spec, BindError>
     // Want of memory is told as such, and as no refusal of a block's SQL.
     ensures memory { IfErr result (λ e. e.kind ≢ BindErrorKind.Sql sql.NoMemory) }
 {
-    match bound(alloc, text) {
+    bind_at(alloc, text, None)
+}
+
+/// The same where a level is asked for, which each transaction has that names none; or where levels are not asked for.
+pub fn bind_at(alloc: Global, text: &SpecText, levels: Option<Level>) -> Result<Spec, BindError>
+    // What is bound is what the file says.
+    ensures bound { IfOk result (λ spec. bound_at levels (string_bytes text.now.text) (spec_tree text.now) ≡ Ok spec) }
+    // What is refused has the first refusal of the file, at each level the same, unless memory ran out.
+    ensures refused { IfErr result (λ e. (bound_file (string_bytes text.now.text) (spec_tree text.now) ≡ Err e) ⊎ (e ≡ record { kind = BindErrorKind.NoMemory; offset = 0 })) }
+    // Want of memory is told as such, and as no refusal of a block's SQL.
+    ensures memory { IfErr result (λ e. e.kind ≢ BindErrorKind.Sql sql.NoMemory) }
+{
+    match bound(alloc, text, levels) {
         Ok(spec) => Ok(spec),
         Err(BindStop::Refused(error)) => Err(error),
         Err(BindStop::Memory) => Err(NO_MEMORY),

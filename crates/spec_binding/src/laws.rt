@@ -13,12 +13,19 @@ ghost use Rattle.bound_specs.specs.Fits.{Fits, SpecFits};
 ghost use Rattle.binding_model.specs.Statements.{statement};
 ghost use Rattle.binding_model.specs.declared.error.BindError.{BindError};
 ghost use Rattle.binding_model.specs.Refusals.{IsNamed};
+ghost use Rattle.bound_specs.specs.Levels.{AskAlways};
 ghost use Rattle.bound_specs.specs.Spec.{SpecFile};
-ghost use Rattle.bound_specs.specs.Binding.{IsFileOf, read_text, bound_file, declared, main_setup};
+ghost use Rattle.bound_specs.specs.Binding.{IsFileAt, IsFileOf, read_text, bound_file, declared, main_setup};
 
-/// A text is that of one file at most.
+/// A text is that of one file at most, where levels are not asked for, and at each level.
 pub fn one_file()
-    ensures { (text : List ℕ) (a b : SpecFile) → IsFileOf text a → IsFileOf text b → a ≡ b }
+    ensures one { (text : List ℕ) (a b : SpecFile) → IsFileOf text a → IsFileOf text b → a ≡ b }
+    ensures levels { (text : List ℕ) (a b : SpecFile) → a.asked ≡ b.asked → IsFileAt text a → IsFileAt text b → a ≡ b }
+{}
+
+/// Where levels are not asked for, each statement of a file asks for its whole plan, whatever the level that a BEGIN names.
+pub fn files_ask_always()
+    ensures { (text : List ℕ) (file : SpecFile) → IsFileOf text file → AskAlways file.run }
 {}
 
 /// What a block's text says is what it spells by the grammar; where it spells nothing, it has a first fault, which is never want of memory.
@@ -39,8 +46,10 @@ pub fn bound_statements_fit()
     ensures { (tables : List Table) (at : ℕ) (s : Statement) (b : Bound) → statement tables at s ≡ Ok b → Fits tables b }
 {}
 
-/// All statements of a spec file fit the tables that its main setups declare.
+/// All statements of a spec file fit the tables that its main setups declare, where levels are not asked for, and at each level.
 pub fn bound_files_fit()
-    ensures { (text : List ℕ) (file : SpecFile) → (is : IsFileOf text file) → (main : List Table × List (List Bound))
+    ensures levels { (text : List ℕ) (file : SpecFile) → (is : IsFileAt text file) → (main : List Table × List (List Bound))
+        × ((declared main_setup [] is.tree.front.setups ≡ Ok main) × SpecFits main.0 file.run) }
+    ensures fit { (text : List ℕ) (file : SpecFile) → (is : IsFileOf text file) → (main : List Table × List (List Bound))
         × ((declared main_setup [] is.tree.front.setups ≡ Ok main) × SpecFits main.0 file.run) }
 {}

@@ -7,10 +7,11 @@ mod laws;
 mod shapes;
 mod spec;
 
-pub use binding::bind;
+pub use binding::{bind, bind_at};
 pub use binding_model::{BindError, BindErrorKind};
 pub use blocks::setups;
 pub use laws::{
-    blocks_are_spelled, bound_files_fit, bound_statements_fit, one_file, refusals_are_named,
+    blocks_are_spelled, bound_files_fit, bound_statements_fit, files_ask_always, one_file,
+    refusals_are_named,
 };
-pub use spec::{SpecFault, bound_again, spec_of};
+pub use spec::{SpecFault, bound_again, spec_at, spec_of};

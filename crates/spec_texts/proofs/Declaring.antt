@@ -5,7 +5,7 @@ use Rattle.binding_model.specs.declared.error.BindStop.{BindStop}
 use Rattle.binding_model.specs.declared.error.BindStop.TheVariants.{Memory, Refused}
 use Rattle.binding_model.specs.declared.tables.Table.{Table}
 use Rattle.binding_model.specs.Refusals.{Bind, Binds}
-use Rattle.bound_specs.specs.Binding.{IsFileOf, declared, main_setup, shaped}
+use Rattle.bound_specs.specs.Binding.{IsFileAt, declared, main_setup, shaped, written_file}
 use Rattle.bound_specs.specs.Lines.{orders_of}
 use Rattle.bound_specs.specs.Spec.{SpecFile}
 use Rattle.bound_specs.proofs.FileLemmas.{bind}
@@ -15,9 +15,10 @@ only-memory Memory r y e h = refl
 only-memory (Refused error) r y e h = let same : Ok y ≡ Err error = sym e ∙ h in absurd (cc same)
 
 -- they stop for want of memory alone
-pub setups-want-memory : (stop : BindStop) (r : Bind (List Table × List (List Bound))) (text : List ℕ) (file : SpecFile) → (is : IsFileOf text file)
+pub setups-want-memory : (stop : BindStop) (r : Bind (List Table × List (List Bound))) (text : List ℕ) (file : SpecFile) → (is : IsFileAt text file)
     → r ≡ declared main_setup [] is.tree.front.setups → Binds (λ (main : List Table × List (List Bound)). main) (Err stop) r → stop ≡ Memory
 setups-want-memory stop r text file is e h =
-    let a = bind (shaped (orders_of is.tree)) _ file is.is_bound in
-    let b = bind (declared main_setup [] is.tree.front.setups) _ file a.1.1 in
+    let w = bind (written_file text is.tree) _ file is.is_bound in
+    let a = bind (shaped (orders_of is.tree)) _ w.0 w.1.0 in
+    let b = bind (declared main_setup [] is.tree.front.setups) _ w.0 a.1.1 in
     only-memory stop r b.0 (e ∙ b.1.0) h

@@ -5,7 +5,8 @@ use Rattle.std.proofs.lemmas.List.{length-map}
 use Rattle.spec_reader.specs.declared.tree.Session.{Session}
 use Rattle.spec_reader.specs.Tree.{StepTree, SessionTree}
 use Rattle.spec_reader.specs.Views.{session_tree, step_tree}
-use Rattle.bound_specs.specs.Binding.{IsFileOf, declared, made_file, main_setup, session, shaped}
+use Rattle.bound_specs.specs.Binding.{IsFileAt, declared, made_file, main_setup, session, shaped, written_file}
+use Rattle.bound_specs.specs.Levels.{levelled_file}
 use Rattle.bound_specs.specs.Lines.{orders_of, step_names}
 use Rattle.bound_specs.specs.Spec.{SpecFile, IsReady}
 use Rattle.bound_specs.proofs.FileLemmas.{bind}
@@ -36,15 +37,17 @@ lines-length (s ∷ ss) =
     omega (arith, a, b, c, d, e)
 
 -- a file has the names of its tree's steps
-named : (text : List ℕ) (file : SpecFile) → (is : IsFileOf text file) → step_names is.tree.sessions ≡ file.step_names
+named : (text : List ℕ) (file : SpecFile) → (is : IsFileAt text file) → step_names is.tree.sessions ≡ file.step_names
 named text file is =
-    let a = bind (shaped (orders_of is.tree)) _ file is.is_bound in
-    let b = bind (declared main_setup [] is.tree.front.setups) _ file a.1.1 in
-    let c = bind (each (session b.0.0) is.tree.sessions) _ file b.1.1 in
-    let same : made_file text is.tree a.0 b.0.1 c.0 ≡ file = cc (c.1.1) in
-    ap (λ (f : SpecFile). f.step_names) same
+    let w = bind (written_file text is.tree) _ file is.is_bound in
+    let a = bind (shaped (orders_of is.tree)) _ w.0 w.1.0 in
+    let b = bind (declared main_setup [] is.tree.front.setups) _ w.0 a.1.1 in
+    let c = bind (each (session b.0.0) is.tree.sessions) _ w.0 b.1.1 in
+    let written : made_file text is.tree a.0 b.0.1 c.0 ≡ w.0 = cc (c.1.1) in
+    let levelled : levelled_file file.asked w.0 ≡ file = cc (w.1.1) in
+    ap (λ (f : SpecFile). f.step_names) written ∙ ap (λ (f : SpecFile). f.step_names) levelled
 
 -- there is a line for each step
-pub a-line-each : (text : List ℕ) (file : SpecFile) → (is : IsFileOf text file) → IsReady file → length (step_lines is.tree.sessions) ≡ length file.run.steps
+pub a-line-each : (text : List ℕ) (file : SpecFile) → (is : IsFileAt text file) → IsReady file → length (step_lines is.tree.sessions) ≡ length file.run.steps
 a-line-each text file is ready =
     lines-length is.tree.sessions ∙ ap (λ (names : List (List ℕ)). length names) (named text file is) ∙ ready.step_names

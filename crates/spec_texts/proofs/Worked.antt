@@ -48,7 +48,7 @@ u = record { name = codes "u"; columns = id ∷ []; key = None }
 
 -- two setups declare in their order, the second beside what the first declared; names ignore case
 two_tables : declared main_setup [] (block (codes "CREATE TABLE T (id int PRIMARY KEY, V text)") ∷ block (codes "BEGIN; CREATE TABLE u (id bigint); COMMIT") ∷ [])
-    ≡ Ok (t ∷ u ∷ [], [] ∷ (Begin ∷ Commit ∷ []) ∷ [])
+    ≡ Ok (t ∷ u ∷ [], [] ∷ (Begin None ∷ Commit ∷ []) ∷ [])
 unfolding piece_of next_statement form other_form
 two_tables = refl
 

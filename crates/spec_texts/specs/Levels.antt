@@ -1,11 +1,13 @@
--- Isolation levels that have no effect, by their lines.
+-- Isolation levels that transactions name, by their lines.
 use Rattle.std.specs.Prelude.{◌≡◌, ℕ, ◌==◌, List, [], ◌∷◌, ◌++◌, if◌then◌else◌}
-use Rattle.bound_specs.specs.Binding.{IsFileOf}
+use Rattle.bound_statements.specs.Levels.{block_level}
+use Rattle.bound_specs.specs.Binding.{IsFileAt}
 use Rattle.bound_specs.specs.Spec.{SpecFile}
 use Rattle.fault_texts.specs.Places.{place}
 use Rattle.file_blocks.specs.Blocks.{sent_blocks}
 use Rattle.spec_texts.specs.Statements.{idle_statements}
-use Rattle.spec_texts.specs.declared.statements.IdleSql.TheVariants.{OtherLevel}
+use Rattle.spec_texts.specs.declared.statements.IdleSql.{IdleSql}
+use Rattle.spec_texts.specs.declared.statements.IdleSql.TheVariants.{OtherLevel, RepeatableRead}
 
 -- a line behind the last one that was told
 abbrev pub new_line : ℕ → ℕ → List ℕ
@@ -16,7 +18,15 @@ abbrev pub lines_from : List ℕ → ℕ → List ℕ → List ℕ
 lines_from text last [] = []
 lines_from text last (n ∷ ns) = new_line last (place text n).line ++ lines_from text (place text n).line ns
 
--- the lines on which the file of this text begins a transaction with a level other than SERIALIZABLE
-pub record AreLevelLines (text : List ℕ) (file : SpecFile) (lines : List ℕ) : Type 0 where
-  pub is : IsFileOf text file
-  pub are : lines ≡ lines_from text 0 (idle_statements OtherLevel (sent_blocks is.tree))
+-- the lines of the file of this text on which statements of a kind begin
+pub record AreLinesOf (kind : IdleSql) (text : List ℕ) (file : SpecFile) (lines : List ℕ) : Type 0 where
+  pub is : IsFileAt text file
+  pub are : lines ≡ lines_from text 0 (idle_statements kind (sent_blocks is.tree))
+
+-- those on which a transaction begins with another level than the one that is asked for; where none is, than SERIALIZABLE
+abbrev pub AreLevelLines : List ℕ → SpecFile → List ℕ → Type 0
+AreLevelLines text file lines = AreLinesOf (OtherLevel (block_level file.asked)) text file lines
+
+-- those on which one begins at REPEATABLE READ
+abbrev pub AreRepeatableLines : List ℕ → SpecFile → List ℕ → Type 0
+AreRepeatableLines text file lines = AreLinesOf RepeatableRead text file lines

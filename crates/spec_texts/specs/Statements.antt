@@ -11,6 +11,8 @@ use Rattle.sql_grammar.specs.declared.statement.Property.{Property}
 use Rattle.sql_grammar.specs.declared.statement.Property.TheVariants.{PrimaryKey, NotNull}
 use Rattle.sql_grammar.specs.declared.statement.TablePart.{TablePart}
 use Rattle.sql_grammar.specs.declared.statement.TablePart.TheVariants.{Column, Key}
+use Rattle.bound_statements.specs.declared.statement.Level.{Level as Asked}
+use Rattle.bound_statements.specs.declared.statement.Level.TheVariants as asked
 use Rattle.spec_reader.specs.Tree.{BlockTree}
 use Rattle.bound_specs.specs.Binding.{offset_in, read_text}
 use Rattle.file_blocks.specs.Blocks.{SentTree}
@@ -30,35 +32,49 @@ abbrev pub has_not_null : TablePart → Bool
 has_not_null (Column name kind properties) = list_any is_not_null properties
 has_not_null (Key name) = false
 
-abbrev pub is_serializable : Level → Bool
-is_serializable Serializable = true
-is_serializable RepeatableRead = false
-is_serializable (Read word) = false
+abbrev pub is_serializable : Asked → Bool
+is_serializable asked.Serializable = true
+is_serializable asked.Committed = false
 
-abbrev pub is_other_level : Option Level → Bool
-is_other_level None = false
-is_other_level (Some level) = not (is_serializable level)
+-- whether what a BEGIN names is this level: READ UNCOMMITTED is READ COMMITTED, and REPEATABLE READ is neither
+abbrev pub is_level : Asked → Level → Bool
+is_level asked Serializable = is_serializable asked
+is_level asked RepeatableRead = false
+is_level asked (Read word) = not (is_serializable asked)
+
+abbrev pub is_other_level : Asked → Option Level → Bool
+is_other_level asked None = false
+is_other_level asked (Some level) = not (is_level asked level)
+
+abbrev pub is_repeatable : Option Level → Bool
+is_repeatable None = false
+is_repeatable (Some Serializable) = false
+is_repeatable (Some RepeatableRead) = true
+is_repeatable (Some (Read word)) = false
 
 -- which kind is asked for
 abbrev pub begins_idle : IdleSql → Option Level → Bool
 begins_idle idle.Level level = is_some level
-begins_idle idle.OtherLevel level = is_other_level level
+begins_idle (idle.OtherLevel asked) level = is_other_level asked level
+begins_idle idle.RepeatableRead level = is_repeatable level
 begins_idle idle.Setting level = false
 begins_idle idle.NotNull level = false
 
 abbrev pub sets_idle : IdleSql → Bool
 sets_idle idle.Level = false
-sets_idle idle.OtherLevel = false
+sets_idle (idle.OtherLevel asked) = false
+sets_idle idle.RepeatableRead = false
 sets_idle idle.Setting = true
 sets_idle idle.NotNull = false
 
 abbrev pub declares_idle : IdleSql → Chain TablePart → Bool
 declares_idle idle.Level parts = false
-declares_idle idle.OtherLevel parts = false
+declares_idle (idle.OtherLevel asked) parts = false
+declares_idle idle.RepeatableRead parts = false
 declares_idle idle.Setting parts = false
 declares_idle idle.NotNull parts = any_of has_not_null parts
 
--- a level has no effect, as all transactions are serializable; nor has a setting; and no value is null
+-- a level has no effect where none is asked for, as all transactions are serializable then; nor has a setting; and no value is null
 abbrev pub is_idle : IdleSql → Statement → Bool
 is_idle kind (tree.CreateTable n ps) = declares_idle kind ps
 is_idle kind (tree.Insert n names rows) = false

@@ -1,23 +1,51 @@
-//! Isolation levels that have no effect, by their lines.
+//! Isolation levels that transactions name, by their lines.
 
 ghost use Rattle.std.specs.Prelude.{◌≡◌, ◌++◌, IfOk, OnOk};
-ghost use Rattle.spec_texts.specs.Levels.{AreLevelLines, lines_from, new_line};
+ghost use Rattle.bound_statements.specs.Levels.{block_level};
+ghost use Rattle.spec_texts.specs.Levels.{AreLevelLines, AreLinesOf, AreRepeatableLines, lines_from, new_line};
 
 use crate::reading::read_again;
 use crate::statements::{IdleSql, idle_statements};
 use bound_specs::Spec;
+use bound_statements::Level;
 use fault_texts::place_of;
 use file_blocks::sent_blocks;
 use std::alloc::{AllocError, Global};
 
-/// The lines of a spec's text on which a transaction begins with an isolation level other than SERIALIZABLE, each once. It fails for want of memory alone.
+/// The lines of a spec's text on which a transaction begins with another isolation level than the one that is asked for, each once; where none is, than
+/// SERIALIZABLE. It fails for want of memory alone.
 pub fn level_lines(alloc: Global, spec: &Spec) -> Result<Vec<usize>, AllocError>
     ensures { IfOk result (λ lines. AreLevelLines spec.now.text spec.now lines.items) }
+{
+    let asked = default_of(spec.levels());
+    lines_of(alloc, spec, IdleSql::OtherLevel(asked))
+}
+
+/// The lines on which one begins at REPEATABLE READ, each once. It fails for want of memory alone.
+pub fn repeatable_lines(alloc: Global, spec: &Spec) -> Result<Vec<usize>, AllocError>
+    ensures { IfOk result (λ lines. AreRepeatableLines spec.now.text spec.now lines.items) }
+{
+    lines_of(alloc, spec, IdleSql::RepeatableRead)
+}
+
+/// The level of a transaction that names none.
+fn default_of(asked: Option<Level>) -> Level
+    ensures { result ≡ block_level asked }
+{
+    match asked {
+        None => Level::Serializable,
+        Some(level) => level,
+    }
+}
+
+/// The lines of a spec's text on which statements of a kind begin, each once.
+fn lines_of(alloc: Global, spec: &Spec, kind: IdleSql) -> Result<Vec<usize>, AllocError>
+    ensures { IfOk result (λ lines. AreLinesOf kind spec.now.text spec.now lines.items) }
 {
     spec.known();
     let file = read_again(alloc, spec)?;
     let blocks = sent_blocks(alloc, &file)?;
-    let places = idle_statements(alloc, IdleSql::OtherLevel, &blocks)?;
+    let places = idle_statements(alloc, kind, &blocks)?;
     lines_at(alloc, spec.text().as_bytes(), &places)
 }
 

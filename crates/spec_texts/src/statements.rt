@@ -7,8 +7,9 @@ ghost use Rattle.sql_grammar.specs.Views.{chain_of, view_form};
 ghost use Rattle.spec_reader.specs.Views.{block_tree};
 ghost use Rattle.bound_specs.specs.Binding.{offset_in};
 ghost use Rattle.file_blocks.specs.Blocks.{sent_tree};
-ghost use Rattle.spec_texts.specs.Statements.{any_of, begins_idle, declares_idle, has_not_null, idle_at, idle_in, idle_statements, is_idle, is_not_null, is_other_level, is_serializable, sets_idle};
+ghost use Rattle.spec_texts.specs.Statements.{any_of, begins_idle, declares_idle, has_not_null, idle_at, idle_in, idle_statements, is_idle, is_not_null, is_level, is_other_level, is_repeatable, is_serializable, sets_idle};
 
+use bound_statements::Level as Asked;
 use file_blocks::SentBlock;
 use spec_reader::Block;
 use sql_grammar::{CreateTable, Form, Level, Property, SqlErrorKind, Statement, TablePart};
@@ -20,8 +21,10 @@ use std::alloc::{AllocError, Global};
 pub enum IdleSql {
     /// The isolation level of a BEGIN: all transactions are serializable.
     Level,
-    /// One that is not SERIALIZABLE.
-    OtherLevel,
+    /// One that is not this.
+    OtherLevel(Asked),
+    /// REPEATABLE READ.
+    RepeatableRead,
     /// The whole of a SET.
     Setting,
     /// NOT NULL of a column: no value is null.
@@ -116,28 +119,48 @@ fn begins_idle(kind: IdleSql, level: Option<Level>) -> bool
 {
     match kind {
         IdleSql::Level => level.is_some(),
-        IdleSql::OtherLevel => is_other_level(level),
+        IdleSql::OtherLevel(asked) => is_other_level(asked, level),
+        IdleSql::RepeatableRead => is_repeatable(level),
         IdleSql::Setting => false,
         IdleSql::NotNull => false,
     }
 }
 
-fn is_other_level(level: Option<Level>) -> bool
-    ensures { result ≡ is_other_level level }
+fn is_other_level(asked: Asked, level: Option<Level>) -> bool
+    ensures { result ≡ is_other_level asked level }
 {
     match level {
         None => false,
-        Some(level) => !is_serializable(level),
+        Some(level) => !is_level(asked, level),
     }
 }
 
-fn is_serializable(level: Level) -> bool
-    ensures { result ≡ is_serializable level }
+/// Whether what a BEGIN names is this level.
+fn is_level(asked: Asked, level: Level) -> bool
+    ensures { result ≡ is_level asked level }
 {
     match level {
-        Level::Serializable => true,
+        Level::Serializable => is_serializable(asked),
         Level::RepeatableRead => false,
-        Level::Read(_) => false,
+        Level::Read(_) => !is_serializable(asked),
+    }
+}
+
+fn is_serializable(asked: Asked) -> bool
+    ensures { result ≡ is_serializable asked }
+{
+    match asked {
+        Asked::Serializable => true,
+        Asked::Committed => false,
+    }
+}
+
+fn is_repeatable(level: Option<Level>) -> bool
+    ensures { result ≡ is_repeatable level }
+{
+    match level {
+        Some(Level::RepeatableRead) => true,
+        _ => false,
     }
 }
 
@@ -146,7 +169,8 @@ fn sets_idle(kind: IdleSql) -> bool
 {
     match kind {
         IdleSql::Level => false,
-        IdleSql::OtherLevel => false,
+        IdleSql::OtherLevel(_) => false,
+        IdleSql::RepeatableRead => false,
         IdleSql::Setting => true,
         IdleSql::NotNull => false,
     }
@@ -157,7 +181,8 @@ fn declares_idle(kind: IdleSql, table: &CreateTable) -> bool
 {
     match kind {
         IdleSql::Level => false,
-        IdleSql::OtherLevel => false,
+        IdleSql::OtherLevel(_) => false,
+        IdleSql::RepeatableRead => false,
         IdleSql::Setting => false,
         IdleSql::NotNull => has_not_null(table),
     }

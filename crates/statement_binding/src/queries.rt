@@ -15,7 +15,7 @@ use crate::inserts::{all_columns, columns};
 use crate::keys::key_of;
 use crate::types::{condition_mixes, output_mixes};
 use binding_model::{BindErrorKind, BindStop, Table, refused};
-use bound_statements::{Aggregate, Bound, Condition, Order, Output, RowLock, SortKey};
+use bound_statements::{Aggregate, Bound, Condition, Level, Order, Output, RowLock, SortKey};
 use lock_modes::Value;
 use sql_grammar::{
     Aggregate as AggregateText, Chain, Direction, LockedFor, RowLock as RowLockText, Select,
@@ -148,10 +148,12 @@ fn written_lock_of(lock: Option<RowLockText>) -> RowLock
         None => RowLock {
             exclusive: false,
             nowait: false,
+            level: Some(Level::Serializable),
         },
         Some(lock) => RowLock {
             exclusive: is_update(lock.locked_for),
             nowait: lock.nowait,
+            level: None,
         },
     }
 }

@@ -9,9 +9,9 @@ use crate::changes::{delete, update};
 use crate::inserts::insert;
 use crate::queries::select;
 use binding_model::{BindErrorKind, BindStop, Table, refused, table_named};
-use bound_statements::Bound;
+use bound_statements::{Bound, Level};
 use lock_modes::Mode;
-use sql_grammar::{EndWord, Form, LockMode, SqlErrorKind, Strength};
+use sql_grammar::{EndWord, Form, Level as LevelText, LockMode, SqlErrorKind, Strength};
 use std::alloc::Global;
 
 /// The mode that LOCK TABLE asks: names and default are PostgreSQL's.
@@ -47,6 +47,17 @@ fn end_of(word: EndWord) -> Bound
     }
 }
 
+/// The level that a BEGIN names. REPEATABLE READ is SERIALIZABLE, and READ UNCOMMITTED is READ COMMITTED.
+fn level_of(level: Option<LevelText>) -> Option<Level>
+    ensures { result ≡ spec.level_of level }
+{
+    match level {
+        None => None,
+        Some(LevelText::Serializable | LevelText::RepeatableRead) => Some(Level::Serializable),
+        Some(LevelText::Read(_)) => Some(Level::Committed),
+    }
+}
+
 /// Binds a statement that begins at this offset.
 pub fn statement(alloc: Global, tables: &[Table], at: usize, form: &Form) -> Result<Bound, BindStop>
     ensures { Binds (λ bound. bound) result (spec.statement tables.now at (view_form form.now)) }
@@ -69,7 +80,7 @@ pub fn statement(alloc: Global, tables: &[Table], at: usize, form: &Form) -> Res
             let (number, table) = table_named(tables, at, text.table.as_str())?;
             delete(alloc, table, at, number, text)
         }
-        Form::Begin(_) => Ok(Bound::Begin),
+        Form::Begin(text) => Ok(Bound::Begin(level_of(text.level))),
         Form::End(end) => Ok(end_of(end.word)),
         Form::Lock(text) => {
             let (number, _) = table_named(tables, at, text.table.as_str())?;

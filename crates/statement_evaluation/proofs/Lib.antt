@@ -1,3 +1,4 @@
 pub mod ListLemmas
 pub mod SortLemmas
 pub mod WriteLemmas
+pub mod LevelEffects

@@ -193,6 +193,6 @@ module _ (P : RowPlace → Type 0) where
   effect-each (Delete t key c) rows sees = deleted-each P c (entries (visible (Delete t key c) rows)) (seen-each (Delete t key c) rows sees)
   effect-each (Lock t m n) rows sees = tt
   effect-each SetVariable rows sees = tt
-  effect-each Begin rows sees = tt
+  effect-each (Begin level) rows sees = tt
   effect-each Commit rows sees = tt
   effect-each Rollback rows sees = tt

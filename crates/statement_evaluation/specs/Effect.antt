@@ -146,7 +146,7 @@ effect_on (Delete t key c) rows = elim (matching c (entries rows))
     [ None ↦ Faults OutOfRange | Some es ↦ counted Deleted (map (λ (e : RowPlace × Tuple). record { place = e.0; left = None }) es) ]
 effect_on (Lock t m nowait) rows = Gives (Locked ∷ []) []
 effect_on SetVariable rows = Gives (Set ∷ []) []
-effect_on Begin rows = Gives [] []
+effect_on (Begin level) rows = Gives [] []
 effect_on Commit rows = Gives [] []
 effect_on Rollback rows = Gives [] []
 

@@ -11,6 +11,7 @@ use Rattle.bound_statements.specs.Plan.{key_at, looks_at}
 use Rattle.bound_statements.specs.declared.condition.Condition.{Condition}
 use Rattle.bound_statements.specs.declared.statement.Assignment.{Assignment}
 use Rattle.bound_statements.specs.declared.statement.SortKey.{SortKey}
+use Rattle.bound_statements.specs.declared.statement.Level.{Level}
 use Rattle.bound_statements.specs.declared.statement.Output.{Output}
 use Rattle.bound_statements.specs.declared.statement.RowLock.{RowLock}
 use Rattle.bound_statements.specs.declared.statement.Bound.TheVariants.{Select, Insert, Update, Delete, Begin, Commit, Rollback, Lock, SetVariable}
@@ -76,9 +77,9 @@ module _ (rows : Rows') where
   unfolding effect
   effect-set = refl
 
-  pub effect-begin : effect Begin rows ≡ Gives [] []
+  pub effect-begin : (level : Option Level) → effect (Begin level) rows ≡ Gives [] []
   unfolding effect
-  effect-begin = refl
+  effect-begin level = refl
 
   pub effect-commit : effect Commit rows ≡ Gives [] []
   unfolding effect

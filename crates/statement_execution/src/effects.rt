@@ -44,6 +44,6 @@ pub fn effect_of<'a, S: Sight<'a>>(
         }
         Bound::Lock(_, _, _) => Ok(telling(alloc, Event::Locked, Writes::new(alloc))),
         Bound::SetVariable => Ok(telling(alloc, Event::Set, Writes::new(alloc))),
-        Bound::Begin | Bound::Commit | Bound::Rollback => Ok(nothing(alloc)),
+        Bound::Begin(_) | Bound::Commit | Bound::Rollback => Ok(nothing(alloc)),
     }
 }

@@ -3,7 +3,8 @@
 ghost use Rattle.std.specs.Prelude.{◌≡◌, ◌++◌, ◌∷◌, [], IfOk, OnOk};
 ghost use Rattle.row_tables.specs.Layers.{sight};
 ghost use Rattle.statement_evaluation.specs.Effect.{effect};
-ghost use Rattle.statement_execution.specs.Run.{SeesAlone, fault_of, left_by, events_of, wrote_each, WritesAlone};
+ghost use Rattle.statement_evaluation.specs.Borrowed.{effect_at};
+ghost use Rattle.statement_execution.specs.Run.{MayLook, fault_of, left_by, events_of, wrote_each, WritesAlone};
 
 use crate::effects::effect_of;
 use bound_statements::Bound;
@@ -12,8 +13,8 @@ use row_tables::Store;
 use statement_evaluation::{Few, Given, Write, Writes};
 use std::alloc::{AllocError, Global};
 
-/// Runs a statement whose locks are had: its whole effect on the rows that its session sees, or none where it fails. Tells of
-/// it; where it fails, the fault is the answer and nothing is told.
+/// Runs a statement that has asked for its locks: its whole effect on the rows that its session sees, or none where it fails. Tells of
+/// it; where it fails, the fault is the answer and nothing is told. Where others have written, a select shows what is committed.
 pub fn run_statement(
     alloc: Global,
     statement: &Bound,
@@ -21,18 +22,37 @@ pub fn run_statement(
     store: &mut Store,
     log: &mut Log,
 ) -> Result<Option<Fault>, AllocError>
-    requires { SeesAlone session statement.now store.old }
+    requires { MayLook session statement.now store.old }
     ensures fault { IfOk result (λ fault. fault ≡ fault_of (effect statement.now (sight session store.old))) }
     ensures left { OnOk result (store.new ≡ left_by session (effect statement.now (sight session store.old)) store.old) }
     ensures told { OnOk result (log.new ≡ log.old ++ events_of (effect statement.now (sight session store.old))) }
 {
-    match effect_of(alloc, statement, session, &*store)? {
+    match effect_in(alloc, statement, session, &*store)? {
         Given::Failed(fault) => Ok(Some(fault)),
         Given::Told(events, writes) => {
             write_each(store, session, writes)?;
             tell_each(log, events)?;
             Ok(None)
         }
+    }
+}
+
+/// The effect of a statement on the rows that its session sees.
+fn effect_in(
+    alloc: Global,
+    statement: &Bound,
+    session: u8,
+    store: &Store,
+) -> Result<Given, AllocError>
+    requires { MayLook session statement.now store.now }
+    ensures { IfOk result (λ given. effect_at given ≡ effect statement.now (sight session store.now)) }
+{
+    match statement {
+        Bound::Select(_, _, _, _, _, _) => {
+            let only = store.only(session)?;
+            effect_of(alloc, statement, session, &only)
+        }
+        _ => effect_of(alloc, statement, session, store),
     }
 }
 

@@ -1,12 +1,14 @@
 -- A spec beside its accepted record.
 use Rattle.std.specs.Prelude.{◌≡◌, ◌≢◌, ◌⊎◌, ℕ, ◌<◌, ◌++◌, ◌∷◌, true, false, All, List, [], length, get_or, Option, None, IfSome}
 use Rattle.book_commands.specs.Joining.{Files}
+use Rattle.bound_statements.specs.declared.statement.Level.{Level}
 use Rattle.wanted_classes.specs.declared.wanted.WantedClasses.{WantedClasses}
 use Rattle.wanted_classes.specs.declared.wanted.WantedForm.TheVariants.{Record}
 use Rattle.asked_classes.specs.declared.fault.AskedFault.TheVariants as asked
 use Rattle.class_commands.specs.declared.classing.ClassesFault.{ClassesFault}
 use Rattle.class_commands.specs.declared.classing.ClassesFault.TheVariants as fault
 use Rattle.spec_binding.specs.SpecFiles.{IsNoSpec}
+use Rattle.spec_levels.specs.Levelled.{IsWrongLevel}
 use Rattle.class_commands.specs.Classing.{IsTellingOf, IsNotAsked, IsNotExplored, IsNotRun}
 use Rattle.test_commands.specs.declared.listing.TheConstants.{MAX_SPECS}
 use Rattle.test_commands.specs.declared.listing.SpecsFault.{SpecsFault}
@@ -18,8 +20,8 @@ use Rattle.test_commands.specs.declared.testing.Verdict.TheVariants.{Same, Other
 use Rattle.test_commands.specs.declared.testing.TestFault.{TestFault}
 use Rattle.test_commands.specs.declared.testing.TestFault.TheVariants.{Classes, Accepted, NoMemory}
 
--- the record of the results of all orders that clients can send
-pub record WantsAll (wanted : WantedClasses) : Type 0 where
+-- the record of the results of all orders that clients can send, at a level, or at the one for which the file asks
+pub record WantsAll (level : Option Level) (wanted : WantedClasses) : Type 0 where
   pub sent : wanted.all_orders ≡ false
   pub undrawn : wanted.sample ≡ None
   pub results : wanted.by_result ≡ true
@@ -27,10 +29,11 @@ pub record WantsAll (wanted : WantedClasses) : Type 0 where
   pub looks : wanted.queries.items ≡ []
   pub expectations : wanted.expectations.items ≡ []
   pub as_record : wanted.form ≡ Record
+  pub at : wanted.level ≡ level
 
--- the text is the record of the spec file that the bytes are, under a name
-abbrev pub IsText : List ℕ → List ℕ → List ℕ → Type 0
-IsText bytes name text = (wanted : WantedClasses) × WantsAll wanted × IsTellingOf bytes name wanted text
+-- the text is the record at a level of the spec file that the bytes are, under a name
+abbrev pub IsText : Option Level → List ℕ → List ℕ → List ℕ → Type 0
+IsText level bytes name text = (wanted : WantedClasses) × WantsAll level wanted × IsTellingOf bytes name wanted text
 
 -- what a file is beside a text, where its bytes are known
 abbrev pub IsVerdict : Option (List ℕ) → List ℕ → Verdict → Type 0
@@ -38,28 +41,30 @@ IsVerdict known text Same = IfSome known (λ accepted. accepted ≡ text)
 IsVerdict known text (Other other) = IfSome known (λ accepted. accepted ≢ text)
 IsVerdict known text Missing = known ≡ None
 
-pub record IsTested (known : Option (List ℕ)) (bytes name : List ℕ) (tested : Tested) : Type 0 where
-  pub text : IsText bytes name tested.text.items
+pub record IsTested (known : Option (List ℕ)) (level : Option Level) (bytes name : List ℕ) (tested : Tested) : Type 0 where
+  pub text : IsText level bytes name tested.text.items
   pub verdict : IsVerdict known tested.text.items tested.verdict
 
--- why a spec is not tested: the bytes are no spec file, its orders are not run, or there is no room for all states; the accepted file is not read; or memory
+-- why a spec is not tested: the bytes are no spec file, what it says of levels is wrong, its orders are not run, or there is no room for all states; the accepted file is not read; or memory
 -- ran out. That all of a file's classes is asked is refused of no file
-abbrev pub IsNotTested : Option (List ℕ) → List ℕ → List ℕ → TestFault → Type 0
-IsNotTested known bytes name (Classes (fault.Spec error)) = IsNoSpec bytes error
-IsNotTested known bytes name (Classes (fault.Asked asked.NoMemory)) = Unit {0}
-IsNotTested known bytes name (Classes (fault.Asked error)) = ⊥
-IsNotTested known bytes name (Classes (fault.Run error)) =
-    (wanted : WantedClasses) × WantsAll wanted × IsNotAsked bytes wanted (λ file tables. IsNotRun file tables wanted error)
-IsNotTested known bytes name (Classes (fault.TooMany noted)) =
-    (wanted : WantedClasses) × WantsAll wanted × IsNotAsked bytes wanted (λ file tables. IsNotExplored file tables wanted)
-IsNotTested known bytes name (Classes fault.NoMemory) = ⊥
-IsNotTested known bytes name (Classes (fault.Write error)) = ⊥
-IsNotTested known bytes name Accepted = known ≡ None
-IsNotTested known bytes name NoMemory = Unit {0}
+abbrev pub IsNotTested : Option (List ℕ) → Option Level → List ℕ → List ℕ → TestFault → Type 0
+IsNotTested known level bytes name (Classes (fault.Spec error)) = IsNoSpec bytes error
+IsNotTested known level bytes name (Classes (fault.Level error)) = IsWrongLevel bytes level error
+IsNotTested known level bytes name (Classes (fault.Asked asked.NoMemory)) = Unit {0}
+IsNotTested known level bytes name (Classes (fault.Asked error)) = ⊥
+IsNotTested known level bytes name (Classes (fault.Run error)) =
+    (wanted : WantedClasses) × WantsAll level wanted × IsNotAsked bytes wanted (λ file tables. IsNotRun file tables wanted error)
+IsNotTested known level bytes name (Classes (fault.TooMany noted)) =
+    (wanted : WantedClasses) × WantsAll level wanted × IsNotAsked bytes wanted (λ file tables. IsNotExplored file tables wanted)
+IsNotTested known level bytes name (Classes fault.NoMemory) = ⊥
+IsNotTested known level bytes name (Classes (fault.Write error)) = ⊥
+IsNotTested known level bytes name Accepted = known ≡ None
+IsNotTested known level bytes name NoMemory = Unit {0}
 
 -- the fault of a spec whose classes are not told: a text in memory is not written where there is none left
 abbrev pub told_as : ClassesFault → TestFault
 told_as (fault.Spec error) = Classes (fault.Spec error)
+told_as (fault.Level error) = Classes (fault.Level error)
 told_as (fault.Asked error) = Classes (fault.Asked error)
 told_as (fault.Run error) = Classes (fault.Run error)
 told_as (fault.TooMany noted) = Classes (fault.TooMany noted)

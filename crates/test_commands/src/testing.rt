@@ -1,9 +1,11 @@
 //! One spec beside its accepted record.
 
 ghost use Rattle.std.specs.Prelude.{◌≡◌, ℕ, IfErr, IfOk, List, None, Option, Some, true};
+ghost use Rattle.bound_statements.specs.declared.statement.Level.{Level};
 ghost use Rattle.test_commands.specs.Testing.{IsNotTested, IsTested, IsText, IsVerdict, WantsAll, told_as};
 
 use book_commands::{FileReader, Opener};
+use bound_statements::Level;
 use class_commands::{ClassesFault, classes};
 use schedule_counts::Unwatched;
 use std::alloc::Global;
@@ -43,18 +45,20 @@ pub enum TestFault {
     NoMemory,
 }
 
-/// Makes the record of the spec file that bytes are, under a name, and compares it with the accepted one.
+/// Makes the record of the spec file that bytes are, under a name and at a level, and compares it with the accepted one. Where no level is asked for, it is
+/// the one for which the file asks.
 pub fn test_spec<O: Opener>(
     alloc: Global,
     opener: &O,
     bytes: &[u8],
     name: &str,
     accepted: &str,
+    level: Option<Level>,
 ) -> Result<Tested, TestFault>
-    ensures tested { IfOk result (IsTested (O.bytes opener.now accepted.now) bytes.now name.now) }
-    ensures refused { IfErr result (IsNotTested (O.bytes opener.now accepted.now) bytes.now name.now) }
+    ensures tested { IfOk result (IsTested (O.bytes opener.now accepted.now) level bytes.now name.now) }
+    ensures refused { IfErr result (IsNotTested (O.bytes opener.now accepted.now) level bytes.now name.now) }
 {
-    let text = match text_of(alloc, bytes, name) {
+    let text = match text_of(alloc, bytes, name, level) {
         Ok(text) => text,
         Err(fault) => return Err(fault),
     };
@@ -64,12 +68,17 @@ pub fn test_spec<O: Opener>(
     }
 }
 
-/// The record of the spec file that bytes are.
-fn text_of(alloc: Global, bytes: &[u8], name: &str) -> Result<Vec<u8>, TestFault>
-    ensures text { IfOk result (λ text. IsText bytes.now name.now text.items) }
-    ensures refused { IfErr result (λ fault. (known : Option (List ℕ)) → IsNotTested known bytes.now name.now fault) }
+/// The record at a level of the spec file that bytes are.
+fn text_of(
+    alloc: Global,
+    bytes: &[u8],
+    name: &str,
+    level: Option<Level>,
+) -> Result<Vec<u8>, TestFault>
+    ensures text { IfOk result (λ text. IsText level bytes.now name.now text.items) }
+    ensures refused { IfErr result (λ fault. (known : Option (List ℕ)) → IsNotTested known level bytes.now name.now fault) }
 {
-    let wanted = all_of_classes(alloc);
+    let wanted = all_of_classes(alloc, level);
     let mut out = Counted::new(Vec::new(alloc));
     match classes(alloc, bytes, name, &wanted, &Unwatched, &mut out) {
         Ok(_) => Ok(out.into_inner()),
@@ -83,6 +92,7 @@ fn told_as(fault: ClassesFault<'static>) -> TestFault
 {
     match fault {
         ClassesFault::Spec(fault) => TestFault::Classes(ClassesFault::Spec(fault)),
+        ClassesFault::Level(fault) => TestFault::Classes(ClassesFault::Level(fault)),
         ClassesFault::Asked(fault) => TestFault::Classes(ClassesFault::Asked(fault)),
         ClassesFault::Run(error) => TestFault::Classes(ClassesFault::Run(error)),
         ClassesFault::TooMany(noted) => TestFault::Classes(ClassesFault::TooMany(noted)),
@@ -90,9 +100,9 @@ fn told_as(fault: ClassesFault<'static>) -> TestFault
     }
 }
 
-/// The record of the results of the orders that clients can send.
-fn all_of_classes(alloc: Global) -> WantedClasses<'static>
-    ensures { WantsAll result }
+/// The record of the results of the orders that clients can send, at a level, or at the one for which the file asks.
+fn all_of_classes(alloc: Global, level: Option<Level>) -> WantedClasses<'static>
+    ensures { WantsAll level result }
 {
     WantedClasses {
         all_orders: false,
@@ -106,6 +116,7 @@ fn all_of_classes(alloc: Global) -> WantedClasses<'static>
         outcomes: false,
         final_rows: false,
         form: WantedForm::Record,
+        level,
     }
 }
 
@@ -117,7 +128,7 @@ fn verdict_on<O: Opener>(
     path: &str,
 ) -> Result<Verdict, TestFault>
     ensures verdict { IfOk result (IsVerdict (O.bytes opener.now path.now) text.now) }
-    ensures refused { IfErr result (λ fault. (bytes name : List ℕ) → IsNotTested (O.bytes opener.now path.now) bytes name fault) }
+    ensures refused { IfErr result (λ fault. (level : Option Level) (bytes name : List ℕ) → IsNotTested (O.bytes opener.now path.now) level bytes name fault) }
 {
     let Some(reader) = opener.open(path) else {
         return Ok(Verdict::Missing);
@@ -141,7 +152,7 @@ fn compared(accepted: Vec<u8>, text: &[u8]) -> Verdict
 
 /// A read fault is told of a reader that has failed. That no other is told of one is known to what reads, and not from its contract.
 fn read_fault(has_failed: bool) -> TestFault
-    ensures { (known : Option (List ℕ)) → (has_failed ≡ true → known ≡ None) → (bytes name : List ℕ) → IsNotTested known bytes name result }
+    ensures { (known : Option (List ℕ)) → (has_failed ≡ true → known ≡ None) → (level : Option Level) (bytes name : List ℕ) → IsNotTested known level bytes name result }
 {
     if has_failed {
         return TestFault::Accepted;

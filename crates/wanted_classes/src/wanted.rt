@@ -3,6 +3,7 @@
 ghost use Rattle.std.specs.Prelude.{◌≡◌, IfOk};
 ghost use Rattle.wanted_classes.specs.Filters.{filters_of, of_sample};
 
+use bound_statements::Level;
 use std::alloc::{AllocError, Global};
 
 /// What an order may show, with sessions by their names.
@@ -84,6 +85,8 @@ pub struct WantedClasses<'a> {
     /// With the final rows of each class.
     pub final_rows: bool,
     pub form: WantedForm,
+    /// At this level; where none is wanted, at the one for which the file asks.
+    pub level: Option<Level>,
     /// So many megabytes may be taken by states.
     pub memory: u64,
 }

@@ -31,7 +31,7 @@ rest-free w i e = at (want_in w i) refl
   where
     by-status : (s : Status) → rest_of (standing_by None s) ≡ rest_by s
     by-status Outside = refl
-    by-status InBlock = refl
+    by-status (InBlock level) = refl
     by-status Broken = refl
 
     at : (o : Option Want) → want_in w i ≡ o → rest_of (standing_of w i) ≡ rest_by (session_at w i).status

@@ -15,5 +15,5 @@ at_zero e = (Int (pos 0), e.1)
 -- how a session stands that does not wait
 abbrev pub rest_by : Status → Rest
 rest_by Outside = HasEnded
-rest_by InBlock = IsOpen
+rest_by (InBlock level) = IsOpen
 rest_by Broken = HasFailed

@@ -146,7 +146,7 @@ fn rest_outside(status: Status) -> Rest
 {
     match status {
         Status::Outside => Rest::HasEnded,
-        Status::InBlock => Rest::IsOpen,
+        Status::InBlock(_) => Rest::IsOpen,
         Status::Broken => Rest::HasFailed,
     }
 }

@@ -1,6 +1,6 @@
 //! The book of facts one by one.
 
-ghost use Rattle.std.specs.Prelude.{◌≡◌, ◌↔◌, ◌<◌, IfOk, IsTrue, [], option_map};
+ghost use Rattle.std.specs.Prelude.{◌≡◌, ◌↔◌, ◌<◌, IfOk, IsTrue, None, [], option_map};
 ghost use Rattle.std.specs.FinSet.{from_list};
 ghost use Rattle.serde_json.specs.View.{view, items_view};
 ghost use Rattle.fact_books.specs.Entries.{entry_cmp, fact_cmp};
@@ -48,8 +48,9 @@ pub fn fact_parts(value: &Json) -> Option<FactParts<'_>>
     Some(FactParts { facts, text })
 }
 
-/// The book of a spec with the facts that these values are.
+/// The book of a spec, for which levels are not asked for, with the facts that these values are.
 pub fn book_of_facts(alloc: Global, spec: &Spec, values: &[Json]) -> Result<Book, BookError>
+    requires unasked { spec.now.asked ≡ None }
     ensures { Meets (λ book. book) (IsFactsOf spec.now (items_view values.now)) result }
 {
     let facts = match facts_of(alloc, spec, values) {

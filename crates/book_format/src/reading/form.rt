@@ -1,6 +1,6 @@
 //! The book of runs.
 
-ghost use Rattle.std.specs.Prelude.{◌≡◌, option_map};
+ghost use Rattle.std.specs.Prelude.{◌≡◌, None, option_map};
 ghost use Rattle.serde_json.specs.View.{view, items_view};
 ghost use Rattle.book_format.specs.Reading.{Meets};
 ghost use Rattle.book_format.specs.ReadingBooks.{IsRunsOf, run_parts};
@@ -44,13 +44,14 @@ pub fn run_parts(value: &Json) -> Option<RunParts<'_>>
     })
 }
 
-/// The book of a spec with the runs and outcomes that these values are.
+/// The book of a spec, for which levels are not asked for, with the runs and outcomes that these values are.
 pub fn book_of_runs(
     alloc: Global,
     spec: &Spec,
     facts: &[Json],
     outcomes: &[Json],
 ) -> Result<Book, BookError>
+    requires unasked { spec.now.asked ≡ None }
     ensures { Meets (λ book. book) (IsRunsOf spec.now (items_view facts.now) (items_view outcomes.now)) result }
 {
     let table = match outcomes_of(alloc, spec, outcomes) {

@@ -1,6 +1,6 @@
 //! Outcomes of a spec as a book's file has them.
 
-ghost use Rattle.std.specs.Prelude.{◌≡◌, ◌++◌, ◌∷◌, [], IfOk, IsTrue, OnErr, Ok, false};
+ghost use Rattle.std.specs.Prelude.{◌≡◌, ◌++◌, ◌∷◌, [], IfOk, IsTrue, None, OnErr, Ok, false};
 ghost use Rattle.transcripts.specs.Json.{outcome_data};
 ghost use Rattle.book_format.specs.Reading.{IsListed, IsNextOutcome};
 
@@ -11,7 +11,7 @@ use std::alloc::{AllocError, Global};
 use std::marker::Model;
 use transcripts::Outcome;
 
-/// Outcomes that runs of a spec may tell, which rise by their texts, seen by contracts as their list.
+/// Outcomes that runs of a spec may tell, for which levels are not asked for. They rise by their texts, and contracts see them as their list.
 pub struct Listed<'a> {
     spec: &'a Spec,
     outcomes: CompactOutcomes,
@@ -28,7 +28,7 @@ impl Drop for Listed<'_> {
 }
 
 impl<'a> Model for Listed<'a> {
-    ghost use Rattle.std.specs.Prelude.{List};
+    ghost use Rattle.std.specs.Prelude.{◌≡◌, List, None};
     ghost use Rattle.fact_books.specs.Entries.{Told};
     ghost use Rattle.book_format.specs.Reading.{IsListed};
 
@@ -36,12 +36,13 @@ impl<'a> Model for Listed<'a> {
 
     ghost view = { λ l. l.outcomes };
 
-    ghost invariant = { λ l. IsListed l.spec.now.run l.outcomes };
+    ghost invariant = { λ l. (l.spec.now.asked ≡ None) × IsListed l.spec.now.run l.outcomes };
 }
 
 impl<'a> Listed<'a> {
     /// No outcomes.
     pub fn new(alloc: Global, spec: &'a Spec) -> Listed<'a>
+        requires unasked { spec.now.asked ≡ None }
         ensures { result ≡ [] }
     {
         Listed {
@@ -52,7 +53,8 @@ impl<'a> Listed<'a> {
 
     /// The spec and the outcomes.
     pub(crate) fn into_parts(self) -> (&'a Spec, CompactOutcomes)
-        ensures { IsListed result.0.now.run result.1 }
+        ensures unasked { result.0.now.asked ≡ None }
+        ensures listed { IsListed result.0.now.run result.1 }
     {
         let Listed { spec, outcomes } = self;
         (spec, outcomes)

@@ -1,6 +1,12 @@
 use Rattle.serde_json.specs.View.{view, items_view}
-use Rattle.book_files.proofs.BookLaws.{by-facts}
+use Rattle.bound_specs.proofs.FileLemmas.{file-none}
+use Rattle.book_files.proofs.BookLaws.{by-facts, spec-file}
 use Rattle.book_files.proofs.reading.facts_book.Goals as goal
+
+pub book_of_facts-requires : goal.book_of_facts-requires
+book_of_facts-requires c =
+    let text = c.in-Some.parts.text.now in
+    record { unasked = file-none text c.in-Ok.spec (spec-file text c.in-Ok.spec c.in-Ok.ensures) }
 
 pub returns-in-Ok : goal.returns-in-Ok
 returns-in-Ok c =

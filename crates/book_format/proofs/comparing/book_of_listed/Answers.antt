@@ -30,7 +30,7 @@ of_runs-requires-clause-recordable c =
     let size : c.in_ok-count.count ≡ length c.args.outcomes = omega (arith, c.len.ensures, c.in_ok-count.ensures) in
     read-recordable spec c.args.outcomes (run_values c.args.runs.items) c.args.runs.items
     (runs-of spec _ _ _ c.args.runs.items size c.as_slice-2.ensures.value (c.in_ok-stand.ensures c.if-not-stand.false))
-    (outcomes-told spec [] (outcome_values c.args.outcomes) c.args.outcomes (All-nil (IsToldBy spec)) c.requires)
+    (outcomes-told spec [] (outcome_values c.args.outcomes) c.args.outcomes (All-nil (IsToldBy spec)) c.requires.listed)
 
 pub returns : goal.returns
 returns c =
@@ -38,8 +38,8 @@ returns c =
     let size : c.in_ok-count.count ≡ length c.args.outcomes = omega (arith, c.len.ensures, c.in_ok-count.ensures) in
     let text = c.in_ok-same.ensures c.if-not-same.false in
     text-book c.args.bytes.now c.args.spec.now c.args.outcomes c.args.runs.items (string_bytes c.in_ok-quoted.quoted) _
-    (c.are_text.ensures.text c.if-not-are_text.false) (c.are_text.ensures.few c.if-not-are_text.false) c.known.ensures
-    c.requires
+    (c.are_text.ensures.text c.if-not-are_text.false) (c.are_text.ensures.few c.if-not-are_text.false) (c.known.ensures.of c.requires.unasked)
+    c.requires.listed
     (runs-of spec _ _ _ c.args.runs.items size c.as_slice-2.ensures.value (c.in_ok-stand.ensures c.if-not-stand.false))
     (subst (All RunFits) c.as_slice.ensures.value c.facts_in.ensures.fit)
     (c.in_ok-quoted.ensures ∙ ap (λ t. compact_text (string t)) c.text.ensures)

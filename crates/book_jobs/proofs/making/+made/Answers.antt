@@ -26,7 +26,7 @@ made-requires t c =
     let ls = c.args.leaves.now in
     let less = left-less (length ls) (some (length ls) c.if-is_empty.ensures) in
     let front = length-take (length ls / 2) ls in
-    (omega (arith, c.decreases, less, front), lawful-left c.args.spec.now.run ls (length ls / 2) c.requires.lawful)
+    (omega (arith, c.decreases, less, front), (c.requires.unasked, lawful-left c.args.spec.now.run ls (length ls / 2) c.requires.lawful))
 
 -- what stands from a place on, as the code cuts it
 behind : (ls : List Leaf) (n : ℕ) → take (length ls - n) (drop n ls) ≡ drop n ls
@@ -39,7 +39,10 @@ made-requires-2 t c =
     let back : length (take (length ls - length ls / 2) (drop (length ls / 2) ls)) ≡ length ls - length ls / 2 =
     ap (λ (xs : List Leaf). length xs) (behind ls (length ls / 2)) ∙ length-drop (length ls / 2) ls in (
       omega (arith, c.decreases, more, back),
-      subst (AllLawful c.args.spec.now.run) (sym (behind ls (length ls / 2))) (lawful-right c.args.spec.now.run ls (length ls / 2) c.requires.lawful),
+      (
+        c.requires.unasked,
+        subst (AllLawful c.args.spec.now.run) (sym (behind ls (length ls / 2))) (lawful-right c.args.spec.now.run ls (length ls / 2) c.requires.lawful),
+      ),
     )
 
 pub returns-clause-started : goal.returns-clause-started

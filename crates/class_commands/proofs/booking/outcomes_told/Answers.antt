@@ -11,7 +11,7 @@ returns c =
       c.in_ok-ranks.ranks.items,
       c.in_ok-ranks.ensures,
       (
-        c.in_ok-levels.levels.items,
+        c.in_ok-levels.levels,
         c.in_ok-levels.ensures,
         subst (λ (p : Page). IsWritten c.args.wanted.now.json spec.text spec p (written_bytes c.in_ok-written.written))
             (λ k. let p : Page = record {
@@ -26,13 +26,14 @@ returns c =
               is_filtered = c.is_some.ensures k;
               filters = [];
               missing = classes.missing;
-              level_lines = c.as_slice.ensures.value k;
+              level = c.in_ok-levels.levels.asked;
+              other_lines = c.in_ok-levels.levels.other_lines.items;
               expectations = [];
               totals = classes.totals;
-              rows = c.as_slice-2.ensures.value k;
+              rows = c.as_slice.ensures.value k;
               is_brief = c.args.wanted.now.brief;
               with_ranks = c.args.wanted.now.ranks;
-              ranks = c.as_slice-3.ensures.value k;
+              ranks = c.as_slice-2.ensures.value k;
               with_outcomes = c.args.wanted.now.outcomes;
               with_left = false;
               looks = [];

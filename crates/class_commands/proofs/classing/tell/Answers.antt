@@ -25,5 +25,5 @@ returns g c bytes is =
     let Finds = IsFinding found.rows.items a.asked.expectations.items in
     classes-run g.W.Write.contents c.args.out.now c.write_classes.new.out bytes c.args.path.now c.args.wanted.now a is found c.requires.found c.requires.starts.0 c.requires.starts.1
     c.write_classes.result
-    (subst (λ ts. Writes g.W.Write.contents c.args.out.now c.write_classes.new.out (IsTextOf c.args.path.now a.spec ts c.args.wanted.now a.asked found) Finds c.write_classes.result)
+    (subst (λ ts. Writes g.W.Write.contents c.args.out.now c.write_classes.new.out (IsTextOf c.args.path.now a.spec ts a.levels c.args.wanted.now a.asked found) Finds c.write_classes.result)
     c.as_slice-tables.ensures.value c.write_classes.ensures)

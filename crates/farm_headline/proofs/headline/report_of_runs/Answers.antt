@@ -1,5 +1,11 @@
+use Rattle.std.proofs.Common.{rules}
+use Rattle.bound_specs.proofs.FileLemmas.{file-none}
 use Rattle.farm_headline.proofs.HeadlineLemmas.{runs-reported, report-refused}
 use Rattle.farm_headline.proofs.headline.report_of_runs.Goals as goal
+
+-- the spec is bound without levels
+pub book_of_runs-requires : goal.book_of_runs-requires
+book_of_runs-requires g c = (search rules, (search rules, file-none c.args.bytes.now c.in-Ok.spec c.in-Ok.ensures.file))
 
 -- the report is written
 pub returns-in-Ok-write_report-clause-reported : goal.returns-in-Ok-write_report-clause-reported

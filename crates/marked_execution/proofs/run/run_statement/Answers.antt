@@ -3,7 +3,7 @@ use Rattle.row_tables.specs.Layers.{sight}
 use Rattle.statement_evaluation.specs.Effect.{Effect, Faults, effect}
 use Rattle.statement_evaluation.specs.Borrowed.{effect_at}
 use Rattle.statement_execution.specs.Run.{events_of}
-use Rattle.statement_execution.proofs.AloneLemmas.{writes-alone}
+use Rattle.statement_execution.proofs.AloneLemmas.{writes-may}
 use Rattle.marked_execution.proofs.LogLemmas.{telling_each, telling_each-nil}
 use Rattle.marked_execution.proofs.run.run_statement.Goals as goal
 
@@ -11,7 +11,7 @@ use Rattle.marked_execution.proofs.run.run_statement.Goals as goal
 pub write_each-requires : goal.write_each-requires
 write_each-requires c =
     let rows = c.args.rows.now.now in
-    writes-alone c.args.session c.args.statement.now rows (sight c.args.session rows) c.in-Told.events c.in-Told.writes c.requires.alone
+    writes-may c.args.session c.args.statement.now rows (sight c.args.session rows) c.in-Told.events c.in-Told.writes c.requires.alone
     (sym (ap effect_at c.in-Told.is) ∙ c.in_ok-fault.ensures)
 
 -- who is told nothing is told what there was

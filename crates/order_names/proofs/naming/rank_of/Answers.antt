@@ -10,14 +10,14 @@ rank_of_word-requires-clause-known c =
     let file = c.args.spec.now in
     let names = map (λ (p : Bor (List ℕ)). p.now) c.args.names.now in
     subst (All (λ k. k < length file.run.steps)) (sym c.as_slice.ensures.value)
-    (steps-known file (names-own file.text file c.known.ensures) names c.in-Ok.steps.items c.in-Ok.ensures.steps)
+    (steps-known file (names-own file.text file c.known.ensures.at c.ready.ensures) names c.in-Ok.steps.items c.in-Ok.ensures.steps)
 
 -- where orders are all that keep sessions in turn
 pub returns-in-Some-clause-rank : goal.returns-in-Some-clause-rank
 returns-in-Some-clause-rank c =
     let file = c.args.spec.now in
     let names = map (λ (p : Bor (List ℕ)). p.now) c.args.names.now in
-    (words-told file (names-own file.text file c.known.ensures) names c.as_slice.result.now
+    (words-told file (names-own file.text file c.known.ensures.at c.ready.ensures) names c.as_slice.result.now
     (subst (AllZip (IsStepNamed file) names) (sym c.as_slice.ensures.value) c.in-Ok.ensures.steps) (c.in-Some.ensures.words.0 refl) c.rank_of_word.result
     c.rank_of_word.ensures.rank c.rank_of_word.ensures.refused c.rank_of_word.ensures.none).0
 
@@ -25,7 +25,7 @@ pub returns-in-Some-clause-refused : goal.returns-in-Some-clause-refused
 returns-in-Some-clause-refused c =
     let file = c.args.spec.now in
     let names = map (λ (p : Bor (List ℕ)). p.now) c.args.names.now in
-    (words-told file (names-own file.text file c.known.ensures) names c.as_slice.result.now
+    (words-told file (names-own file.text file c.known.ensures.at c.ready.ensures) names c.as_slice.result.now
     (subst (AllZip (IsStepNamed file) names) (sym c.as_slice.ensures.value) c.in-Ok.ensures.steps) (c.in-Some.ensures.words.0 refl) c.rank_of_word.result
     c.rank_of_word.ensures.rank c.rank_of_word.ensures.refused c.rank_of_word.ensures.none).1
 
@@ -34,7 +34,7 @@ pub returns-clause-rank : goal.returns-clause-rank
 returns-clause-rank c =
     let file = c.args.spec.now in
     let names = map (λ (p : Bor (List ℕ)). p.now) c.args.names.now in
-    (lines-told file (names-own file.text file c.known.ensures) names c.as_slice-in-None.result.now
+    (lines-told file (names-own file.text file c.known.ensures.at c.ready.ensures) names c.as_slice-in-None.result.now
     (subst (AllZip (IsStepNamed file) names) (sym c.as_slice-in-None.ensures.value) c.in-Ok.ensures.steps) (λ e. false≢true (c.in-None.ensures.words.1 e))
     c.rank_of_line.result c.rank_of_line.ensures.rank c.rank_of_line.ensures.refused c.rank_of_line.ensures.none).0
 
@@ -42,6 +42,6 @@ pub returns-clause-refused : goal.returns-clause-refused
 returns-clause-refused c =
     let file = c.args.spec.now in
     let names = map (λ (p : Bor (List ℕ)). p.now) c.args.names.now in
-    (lines-told file (names-own file.text file c.known.ensures) names c.as_slice-in-None.result.now
+    (lines-told file (names-own file.text file c.known.ensures.at c.ready.ensures) names c.as_slice-in-None.result.now
     (subst (AllZip (IsStepNamed file) names) (sym c.as_slice-in-None.ensures.value) c.in-Ok.ensures.steps) (λ e. false≢true (c.in-None.ensures.words.1 e))
     c.rank_of_line.result c.rank_of_line.ensures.rank c.rank_of_line.ensures.refused c.rank_of_line.ensures.none).1

@@ -15,9 +15,9 @@ returns-in-Ok-show-clause-done g c =
         c.in-Ok.ensures.read,
         (
           refl,
-          subst (λ f. IsShowRun g.W.Write.contents c.args.out.now c.show.new.out c.in-Ok.bytes.items c.args.path.now c.wanted_of-wanted.result f (Ok tt))
+          subst (λ f. IsShowRun g.W.Write.contents c.args.out.now c.show.new.out c.in-Ok.bytes.items c.args.path.now c.wanted_of-wanted.result f c.args.level (Ok tt))
               c.form_of.ensures
-              (subst (λ b. IsShowRun g.W.Write.contents c.args.out.now c.show.new.out b c.args.path.now c.wanted_of-wanted.result c.form_of.result (Ok tt))
+              (subst (λ b. IsShowRun g.W.Write.contents c.args.out.now c.show.new.out b c.args.path.now c.wanted_of-wanted.result c.form_of.result c.args.level (Ok tt))
               c.as_slice.ensures.value c.in-Ok-show.ensures.shown),
         ),
       ),

@@ -92,5 +92,5 @@ pub returns-in-Test-clause-done : goal.returns-in-Test-clause-done
 returns-in-Test-clause-done g c =
     subst (λ a. IsDone (g.O.Opener.bytes c.args.opener.now) g.W.Write.contents c.args.out.now c.test_of_files.new.out a c.test_of_files.result)
     (sym c.in-Test.is)
-    (subst (λ ps. IsTestRun (g.O.Opener.bytes c.args.opener.now) (map (λ (p : Bor (List ℕ)). p.now) ps) c.in-Test.updates (is_some c.in-Test.junit)
+    (subst (λ ps. IsTestRun (g.O.Opener.bytes c.args.opener.now) (map (λ (p : Bor (List ℕ)). p.now) ps) c.in-Test.level c.in-Test.updates (is_some c.in-Test.junit)
     c.test_of_files.result) c.as_slice-in-Test.ensures.all c.test_of_files.ensures.done)

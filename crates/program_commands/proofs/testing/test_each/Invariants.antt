@@ -7,7 +7,7 @@ use Rattle.program_commands.proofs.testing.test_each.Given as goal
 abbrev pub invariant-loop-told : goal.invariant-loop-told
 invariant-loop-told g l = record {
   within : l.told ≤ length l.specs;
-  specs : IsWorstOf (g.F.Opener.bytes l.folder) false (take l.told (map string_bytes l.specs)) l.ended.specs;
+  specs : IsWorstOf (g.F.Opener.bytes l.folder) l.level false (take l.told (map string_bytes l.specs)) l.ended.specs;
   report : IsReportEnd l.ended.report;
   failures : failures_of l.out ≡ 0;
 }

@@ -6,14 +6,14 @@ use Rattle.session_machine.proofs.runs.run_line.Goals as goal
 
 -- by the laws of the serial order
 pub returns-in-Ok-clause-serial : goal.returns-in-Ok-clause-serial
-returns-in-Ok-clause-serial c =
+returns-in-Ok-clause-serial c = λ none.
     let spec = c.args.world.now.file.run in
     let line = c.args.line.now in
     let w = c.args.world.now.world in
     record {
       world = w;
       starts = c.requires.started;
-      told = bound-serial spec w line c.requires.bound c.requires.started;
+      told = bound-serial spec w line c.requires.bound (c.requires.always none) c.requires.started;
       shown = bound-shown spec w line c.requires.bound c.requires.started;
       outcome_is = c.in-Ok.ensures.told ∙ ap (λ (v : Running). outcome_of v.file.run.sessions v.world) c.in_ok-send_line.ensures.sent;
     }

@@ -1,7 +1,8 @@
 use Rattle.std.specs.Result.{IfOk, OnOk}
-use Rattle.std.specs.Prelude.{Result, Ok, Err}
+use Rattle.std.specs.Prelude.{Option, Result, Ok, Err}
 use Rattle.std.proofs.Common.{◌≡◌, refl, sym, ap, ◌∙◌, subst, ◌⊎◌, ◌++◌, inl, inr}
 use Rattle.bound_statements.specs.declared.statement.Bound.{Bound}
+use Rattle.bound_statements.specs.declared.statement.Level.{Level}
 use Rattle.bound_statements.specs.declared.statement.Bound.TheVariants.{Select, Insert, Update, Delete, Begin, Commit, Rollback, Lock, SetVariable}
 use Rattle.row_tables.specs.Layers.{sight}
 use Rattle.statement_evaluation.specs.Effect.{effect}
@@ -14,17 +15,18 @@ use Rattle.session_steps.proofs.Moves.{does-work}
 use Rattle.session_steps.proofs.performing.work.Goals as goal
 
 -- of the statements that end no transaction only BEGIN does not work
-works-else : (st : Bound) → (kind st ≡ Begins) ⊎ (kind st ≡ Works) → (st ≡ Begin → ⊥) → kind st ≡ Works
+works-else : (st : Bound) → ((level : Level) × (kind st ≡ Begins level)) ⊎ (kind st ≡ Works) → ((named : Option Level) → st ≡ Begin named → ⊥)
+    → kind st ≡ Works
 works-else st (inr is) other = is
-works-else Begin (inl is) other = absurd (other refl)
-works-else Commit (inl is) other = cc
-works-else Rollback (inl is) other = cc
-works-else (Select t key w by out l) (inl is) other = cc
-works-else (Insert t key new) (inl is) other = cc
-works-else (Update t key sets w) (inl is) other = cc
-works-else (Delete t key w) (inl is) other = cc
-works-else (Lock t m n) (inl is) other = cc
-works-else SetVariable (inl is) other = cc
+works-else (Begin named) (inl is) other = absurd (other named refl)
+works-else Commit (inl is) other = let no = is.1 in cc
+works-else Rollback (inl is) other = let no = is.1 in cc
+works-else (Select t key w by out l) (inl is) other = let no = is.1 in cc
+works-else (Insert t key new) (inl is) other = let no = is.1 in cc
+works-else (Update t key sets w) (inl is) other = let no = is.1 in cc
+works-else (Delete t key w) (inl is) other = let no = is.1 in cc
+works-else (Lock t m n) (inl is) other = let no = is.1 in cc
+works-else SetVariable (inl is) other = let no = is.1 in cc
 
 -- two facts of one answer
 if_both : {A E Q : Type 0} {P S : A → Type 0} (result : Result A E) → IfOk result P → OnOk result Q → ((x : A) → P x → Q → S x) → IfOk result S

@@ -11,8 +11,8 @@ pub go_on-requires-clause-ready : goal.go_on-requires-clause-ready
 go_on-requires-clause-ready g c =
     let x = g.S.Stage.staged c.args.stage.now in
     let i = c.args.session in
-    subst (λ b. IsToGo i x.store x.locks b c.start.result.statement c.start.result.request) (sym c.statements.ensures)
-    (subst (λ (p : Point). IsToGo i x.store x.locks c.args.block.now p.statement p.request) (sym c.start.ensures)
+    subst (λ b. IsToGo i x.store x.locks (member_at x i).state.status b c.start.result.statement c.start.result.request) (sym c.statements.ensures)
+    (subst (λ (p : Point). IsToGo i x.store x.locks (member_at x i).state.status c.args.block.now p.statement p.request) (sym c.start.ensures)
     (set-up-to-go x i c.args.block.now c.requires.stage c.requires.inside))
 
 pub returns-clause-ended : goal.returns-clause-ended

@@ -2,16 +2,16 @@ use Rattle.std.proofs.lemmas.List.{drop_all}
 use Rattle.std.proofs.Common.{◌≡◌, ◌+◌, sym, ap, ◌∙◌, subst, List, drop, [], ◌∷◌, ◌++◌, drop-cons, add-one}
 use Rattle.lock_queues.specs.Locks.{waits_now}
 use Rattle.events.specs.declared.event.Event.TheVariants.{Waiting}
-use Rattle.machine_model.specs.Session.{Task}
-use Rattle.statement_execution.specs.Run.{SeesAlone}
+use Rattle.machine_model.specs.Session.{Task, in_status}
+use Rattle.machine_model.proofs.Levels.{perform-behind}
+use Rattle.statement_execution.specs.Run.{MayLook}
 use Rattle.session_steps.specs.declared.asking.Asked.TheVariants.{Had, Waits, Refused}
-use Rattle.session_steps.specs.Going.{Standing, standing, tasks_from, told, GoesOnTo, StopsIn, HasAsked, Does, DoesTo, FailsBy, failed_in, finished_in}
+use Rattle.session_steps.specs.Going.{Standing, session_in, standing, tasks_from, told, GoesOnTo, StopsIn, HasAsked, Does, DoesTo, FailsBy, failed_in, finished_in}
 use Rattle.session_steps.specs.Stage.{member_at, standing_at}
-use Rattle.session_steps.proofs.Going.{sees-alone}
 use Rattle.session_steps.proofs.Moves.{goes-on-stops, goes-there, fails-there, ends-there}
 use Rattle.session_steps.proofs.Waiting.{still-waits, finished-waits}
 use Rattle.session_steps.proofs.States.{same-trans, waits-let_go}
-use Rattle.session_steps.proofs.Steps.{to-ask, still-under, next-to-go, done-then, fails-then, refused-then, waits-then}
+use Rattle.session_steps.proofs.Steps.{to-ask, still-under, next-to-go, does-at, fails-at, may-look, done-then, fails-then, refused-then, waits-then}
 use Rattle.session_steps.proofs.stepping.go_on.Goals as goal
 
 pub ask_all-requires-clause-ready : goal.ask_all-requires-clause-ready
@@ -23,7 +23,7 @@ ask_all-requires-clause-ready g c =
     let st = c.index-statements-number.result in
     let here : drop k sts ≡ st ∷ drop (k + 1) sts = drop-cons sts k st c.loop-number-test.true
     ∙ (λ j. sym c.index-statements-number.is j ∷ drop (sym (add-one k) j) sts) in
-    to-ask i v.store v.locks sts k c.loop-number.request st here c.loop-number.invariant.ready
+    to-ask i v.store v.locks (member_at v i).state.status sts k c.loop-number.request st here c.loop-number.invariant.ready
 
 -- the session holds what the statement asks for, and the others write under their locks
 pub perform-requires-clause-alone : goal.perform-requires-clause-alone
@@ -35,10 +35,11 @@ perform-requires-clause-alone g c =
     let t = v.locks in
     let s = (member_at v i).state in
     let st = c.index-statements-number.result in
+    let q = in_status s.status st in
     let u = (g.S.Stage.staged c.ask_all.new.stage).locks in
-    let had : HasAsked i t s st n u Had = subst (HasAsked i t s st n u) c.in-Had.is c.in_ok-ask_all.ensures.asked in
-    subst (SeesAlone i st) (sym (ap (λ (x : Standing). x.layers) c.in_ok-ask_all.ensures.locks))
-    (sees-alone i st l u c.sound.ensures.together (still-under i l l t u (had.asks l []).others c.loop-number.invariant.ready.under) had.holds)
+    let had : HasAsked i t s q n u Had = subst (HasAsked i t s q n u) c.in-Had.is c.in_ok-ask_all.ensures.asked in
+    subst (MayLook i st) (sym (ap (λ (x : Standing). x.layers) c.in_ok-ask_all.ensures.locks))
+    (may-look i s.status st l u c.sound.ensures.together (still-under i l l t u (had.asks l []).others c.loop-number.invariant.ready.under) had.holds)
 
 -- the statement is done, and the next one follows
 pub loop-number-preserved : goal.loop-number-preserved
@@ -52,20 +53,23 @@ loop-number-preserved g c =
     let t = v.locks in
     let s = (member_at v i).state in
     let st = c.index-statements-number.result in
+    let q = in_status s.status st in
     let here : drop k sts ≡ st ∷ drop (k + 1) sts = drop-cons sts k st c.loop-number-test.true
     ∙ (λ j. sym c.index-statements-number.is j ∷ drop (sym (add-one k) j) sts) in
     let x = standing_at i (g.S.Stage.staged c.args.stage.now) in
-    let first = tasks_from (drop c.args.from.statement sts) c.args.from.request in
+    let first = tasks_from x.own.status (drop c.args.from.statement sts) c.args.from.request in
     let u = (g.S.Stage.staged c.ask_all.new.stage).locks in
-    let had : HasAsked i t s st n u Had = subst (HasAsked i t s st n u) c.in-Had.is c.in_ok-ask_all.ensures.asked in
+    let had : HasAsked i t s q n u Had = subst (HasAsked i t s q n u) c.in-Had.is c.in_ok-ask_all.ensures.asked in
     let z = standing l u s in
     let after = g.S.Stage.staged c.perform.new.stage in
     let w = standing_at i after in
-    let does : DoesTo i z st w = subst (λ q. DoesTo i q st w) c.in_ok-ask_all.ensures.locks
+    let does : DoesTo i z st w = subst (λ y. DoesTo i y st w) c.in_ok-ask_all.ensures.locks
     (subst (Does i (standing_at i (g.S.Stage.staged c.ask_all.new.stage)) st w) c.in_default.is c.in_ok-fault.ensures.does) in
     record {
-      came = done-then i x (standing l t s) first sts k n st here c.loop-number.invariant.came z w (had.asks l) (goes-there i z w st does);
-      ready = next-to-go i l after.store t after.locks sts k n (same-trans i l l after.store t u after.locks (had.asks l []).others does.others)
+      came = done-then i x (standing l t s) first s.status sts k n st here c.loop-number.invariant.came z w (had.asks l)
+          (goes-there i z w q (does-at i s.status z w st does))
+          (perform-behind (session_in i z) (session_in i w) z.layers.committed w.layers.committed st does.goes);
+      ready = next-to-go i l after.store t after.locks s.status w.own.status sts k n (same-trans i l l after.store t u after.locks (had.asks l []).others does.others)
           (does.waits ∙ (had.asks l []).waits) c.loop-number.invariant.ready;
       others = c.in_ok-fault.ensures.others ∙ c.in_ok-ask_all.ensures.others ∙ c.loop-number.invariant.others;
       past = c.in_ok-fault.ensures.past ∙ c.in_ok-ask_all.ensures.past ∙ c.loop-number.invariant.past;
@@ -83,19 +87,20 @@ returns-in-Some-clause-goes g c =
     let t = v.locks in
     let s = (member_at v i).state in
     let st = c.index-statements-number.result in
+    let q = in_status s.status st in
     let here : drop k sts ≡ st ∷ drop (k + 1) sts = drop-cons sts k st c.loop-number-test.true
     ∙ (λ j. sym c.index-statements-number.is j ∷ drop (sym (add-one k) j) sts) in
     let x = standing_at i (g.S.Stage.staged c.args.stage.now) in
-    let first = tasks_from (drop c.args.from.statement sts) c.args.from.request in
+    let first = tasks_from x.own.status (drop c.args.from.statement sts) c.args.from.request in
     let u = (g.S.Stage.staged c.ask_all.new.stage).locks in
-    let had : HasAsked i t s st n u Had = subst (HasAsked i t s st n u) c.in-Had.is c.in_ok-ask_all.ensures.asked in
+    let had : HasAsked i t s q n u Had = subst (HasAsked i t s q n u) c.in-Had.is c.in_ok-ask_all.ensures.asked in
     let z = standing l u s in
     let w = standing_at i (g.S.Stage.staged c.perform.new.stage) in
-    let fails : FailsBy i z st c.in-Some.fault w = subst (λ q. FailsBy i q st c.in-Some.fault w) c.in_ok-ask_all.ensures.locks
+    let fails : FailsBy i z st c.in-Some.fault w = subst (λ y. FailsBy i y st c.in-Some.fault w) c.in_ok-ask_all.ensures.locks
     (subst (Does i (standing_at i (g.S.Stage.staged c.ask_all.new.stage)) st w) c.in-Some.is c.in_ok-fault.ensures.does) in
     let idle = ap (λ ws. waits_now ws i) (had.asks l []).waits ∙ c.loop-number.invariant.ready.idle in
-    subst (StopsIn i x first) (sym c.in_ok-fail.ensures.failed) (fails-then i x (standing l t s) first sts k n st here c.loop-number.invariant.came z _ (had.asks l)
-    (fails-there i z w st c.in-Some.fault idle fails))
+    subst (StopsIn i x first) (sym c.in_ok-fail.ensures.failed) (fails-then i x (standing l t s) first s.status sts k n st here c.loop-number.invariant.came z _ (had.asks l)
+    (fails-there i z w q c.in-Some.fault idle (fails-at i s.status z w st c.in-Some.fault fails)))
 
 -- a request is refused
 pub returns-in-Refused-clause-goes : goal.returns-in-Refused-clause-goes
@@ -109,15 +114,16 @@ returns-in-Refused-clause-goes g c =
     let t = v.locks in
     let s = (member_at v i).state in
     let st = c.index-statements-number.result in
+    let q = in_status s.status st in
     let here : drop k sts ≡ st ∷ drop (k + 1) sts = drop-cons sts k st c.loop-number-test.true
     ∙ (λ j. sym c.index-statements-number.is j ∷ drop (sym (add-one k) j) sts) in
     let x = standing_at i (g.S.Stage.staged c.args.stage.now) in
-    let first = tasks_from (drop c.args.from.statement sts) c.args.from.request in
+    let first = tasks_from x.own.status (drop c.args.from.statement sts) c.args.from.request in
     let u = (g.S.Stage.staged c.ask_all.new.stage).locks in
     let f = c.in-Refused.fault in
-    let refused : HasAsked i t s st n u (Refused f) = subst (HasAsked i t s st n u) c.in-Refused.is c.in_ok-ask_all.ensures.asked in
-    subst (StopsIn i x first) (sym (c.in_ok-fail-in-Refused.ensures.failed ∙ ap (λ q. failed_in i q f) c.in_ok-ask_all.ensures.locks))
-    (refused-then i x (standing l t s) first sts k n st here c.loop-number.invariant.came (failed_in i (standing l u s) f) (refused.asks l))
+    let refused : HasAsked i t s q n u (Refused f) = subst (HasAsked i t s q n u) c.in-Refused.is c.in_ok-ask_all.ensures.asked in
+    subst (StopsIn i x first) (sym (c.in_ok-fail-in-Refused.ensures.failed ∙ ap (λ y. failed_in i y f) c.in_ok-ask_all.ensures.locks))
+    (refused-then i x (standing l t s) first s.status sts k n st here c.loop-number.invariant.came (failed_in i (standing l u s) f) (refused.asks l))
 
 -- a request waits
 pub returns-in-Waits-clause-goes : goal.returns-in-Waits-clause-goes
@@ -131,24 +137,25 @@ returns-in-Waits-clause-goes g c =
     let t = v.locks in
     let s = (member_at v i).state in
     let st = c.index-statements-number.result in
+    let q = in_status s.status st in
     let here : drop k sts ≡ st ∷ drop (k + 1) sts = drop-cons sts k st c.loop-number-test.true
     ∙ (λ j. sym c.index-statements-number.is j ∷ drop (sym (add-one k) j) sts) in
     let x = standing_at i (g.S.Stage.staged c.args.stage.now) in
-    let first = tasks_from (drop c.args.from.statement sts) c.args.from.request in
+    let first = tasks_from x.own.status (drop c.args.from.statement sts) c.args.from.request in
     let u = (g.S.Stage.staged c.ask_all.new.stage).locks in
-    let waits : HasAsked i t s st n u (Waits c.in-Waits.request) = subst (HasAsked i t s st n u) c.in-Waits.is c.in_ok-ask_all.ensures.asked in
+    let waits : HasAsked i t s q n u (Waits c.in-Waits.request) = subst (HasAsked i t s q n u) c.in-Waits.is c.in_ok-ask_all.ensures.asked in
     let there : List Task → Standing = λ rest. record {
       layers = l;
       locks = u;
       own = record { status = s.status; rest = rest; transcript = s.transcript ++ Waiting ∷ [] };
     } in
-    let stopped : Standing → Standing = λ q. record {
-      layers = q.layers;
-      locks = q.locks;
-      own = record { status = q.own.status; rest = tasks_from (drop k sts) (c.in-Waits.request + 1); transcript = q.own.transcript };
+    let stopped : Standing → Standing = λ y. record {
+      layers = y.layers;
+      locks = y.locks;
+      own = record { status = y.own.status; rest = tasks_from y.own.status (drop k sts) (c.in-Waits.request + 1); transcript = y.own.transcript };
     } in
-    subst (λ q. StopsIn i x first (stopped q)) (sym (c.in_ok-tell-in-Waits.ensures.told ∙ ap (λ q. told q Waiting) c.in_ok-ask_all.ensures.locks))
-    (waits-then i x (standing l t s) first sts k n st here c.loop-number.invariant.came there c.in-Waits.request (waits.asks l))
+    subst (λ y. StopsIn i x first (stopped y)) (sym (c.in_ok-tell-in-Waits.ensures.told ∙ ap (λ y. told y Waiting) c.in_ok-ask_all.ensures.locks))
+    (waits-then i x (standing l t s) first s.status sts k n st here c.loop-number.invariant.came there c.in-Waits.request (waits.asks l))
 
 -- the step ends
 pub returns-clause-goes : goal.returns-clause-goes
@@ -158,8 +165,8 @@ returns-clause-goes g c =
     let k = c.loop-number.number in
     let y = standing_at i (g.S.Stage.staged c.loop-number.stage) in
     let x = standing_at i (g.S.Stage.staged c.args.stage.now) in
-    let first = tasks_from (drop c.args.from.statement sts) c.args.from.request in
-    let came = subst (λ ss. GoesOnTo i x first y (tasks_from ss c.loop-number.request)) (drop_all k sts c.loop-number-test.false) c.loop-number.invariant.came
+    let first = tasks_from x.own.status (drop c.args.from.statement sts) c.args.from.request in
+    let came = subst (λ ss. GoesOnTo i x first y (tasks_from y.own.status ss c.loop-number.request)) (drop_all k sts c.loop-number-test.false) c.loop-number.invariant.came
     in
     subst (StopsIn i x first) (sym c.in_ok-finish.ensures.finished) (goes-on-stops i x y (finished_in i y) first [] came
     (ends-there i y c.loop-number.invariant.ready.idle))
@@ -174,11 +181,12 @@ returns-in-Some-clause-waits g c =
     let t = v.locks in
     let s = (member_at v i).state in
     let st = c.index-statements-number.result in
+    let q = in_status s.status st in
     let t0 = (g.S.Stage.staged c.args.stage.now).locks in
     let idle = c.requires.ready.idle in
     let asked = g.S.Stage.staged c.ask_all.new.stage in
     let u = asked.locks in
-    let had : HasAsked i t s st n u Had = subst (HasAsked i t s st n u) c.in-Had.is c.in_ok-ask_all.ensures.asked in
+    let had : HasAsked i t s q n u Had = subst (HasAsked i t s q n u) c.in-Had.is c.in_ok-ask_all.ensures.asked in
     let w = standing_at i (g.S.Stage.staged c.perform.new.stage) in
     let fails : FailsBy i (standing_at i asked) st c.in-Some.fault w =
     subst (Does i (standing_at i asked) st w) c.in-Some.is c.in_ok-fault.ensures.does in
@@ -194,10 +202,11 @@ returns-in-Refused-clause-waits g c =
     let t = v.locks in
     let s = (member_at v i).state in
     let st = c.index-statements-number.result in
+    let q = in_status s.status st in
     let t0 = (g.S.Stage.staged c.args.stage.now).locks in
     let idle = c.requires.ready.idle in
     let u = (g.S.Stage.staged c.ask_all.new.stage).locks in
-    let refused : HasAsked i t s st n u (Refused c.in-Refused.fault) = subst (HasAsked i t s st n u) c.in-Refused.is c.in_ok-ask_all.ensures.asked in
+    let refused : HasAsked i t s q n u (Refused c.in-Refused.fault) = subst (HasAsked i t s q n u) c.in-Refused.is c.in_ok-ask_all.ensures.asked in
     let same : u.waits ≡ t0.waits = refused.queues ∙ c.loop-number.invariant.came.waits in
     still-waits i t0 (g.S.Stage.staged c.fail.new.stage).locks
     (ap (λ (q : Standing). q.locks.waits) c.in_ok-fail-in-Refused.ensures.failed ∙ waits-let_go u i (ap (λ ws. waits_now ws i) same ∙ idle) ∙ same) idle

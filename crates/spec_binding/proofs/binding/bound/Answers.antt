@@ -6,6 +6,7 @@ use Rattle.spec_reader.specs.Whole.{spec_tree}
 use Rattle.spec_binding.specs.Bindings.{bound_session}
 use Rattle.bound_specs.specs.Orders.{lines_of}
 use Rattle.bound_specs.specs.Binding.{session, declared, main_setup}
+use Rattle.bound_specs.specs.Levels.{levelled_block, levelled_step}
 use Rattle.bound_specs.specs.Lines.{session_names, step_names}
 use Rattle.binding_model.specs.Refusals.{each}
 use Rattle.spec_binding.proofs.FileLemmas.{few-sessions, kept}
@@ -42,11 +43,12 @@ from_parts-requires c =
       text = bytes i;
       session_names = names i;
       step_names = steps i;
+      asked = c.args.levels;
       run = record {
         sessions = count i;
-        steps = c.in_ok-steps.ensures.steps i;
-        setups = c.in_ok-setups.setups.items;
-        session_setups = c.in_ok-steps.ensures.setups i;
+        steps = (c.in_ok-steps.ensures ∙ ap (map (levelled_step c.args.levels)) c.in_ok-written_steps.ensures.steps) i;
+        setups = c.in_ok-setups-2.ensures i;
+        session_setups = (c.in_ok-session_setups.ensures ∙ ap (map (levelled_block c.args.levels)) c.in_ok-written_steps.ensures.setups) i;
         lines = lines_of c.in_ok-orders.orders;
       };
     })

@@ -1,5 +1,5 @@
-use Rattle.spec_binding.proofs.FileFitLemmas.{files-fit}
+use Rattle.spec_binding.proofs.FileFitLemmas.{files-fit, files-fit-at}
 use Rattle.spec_binding.proofs.laws.bound_files_fit.Goals as goal
 
 pub returns : goal.returns
-returns c = files-fit
+returns c = record { levels = files-fit-at; fit = files-fit }

@@ -1,5 +1,5 @@
-use Rattle.bound_specs.proofs.FileLemmas.{one-file}
+use Rattle.bound_specs.proofs.FileLemmas.{one-file, one-file-at}
 use Rattle.spec_binding.proofs.laws.one_file.Goals as goal
 
 pub returns : goal.returns
-returns c = one-file
+returns c = record { one = one-file; levels = one-file-at }

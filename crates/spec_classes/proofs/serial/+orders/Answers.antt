@@ -2,7 +2,9 @@ use Rattle.std.proofs.Common.{◌≡◌, ◌≢◌, refl, sym, ap, ◌∙◌, su
 use Rattle.std.specs.Prelude.{slice_get}
 use Rattle.std.specs.Cmp.Lexicographic.{same_text, other_text}
 use Rattle.perm_ranks.specs.declared.TheConstants.{MAX_SESSIONS}
+use Rattle.perm_ranks.proofs.CountLemmas.{total-set}
 use Rattle.marked_worlds.specs.Worlds.{MarkedRunning}
+use Rattle.std.proofs.lemmas.List.{length-set}
 use Rattle.spec_classes.specs.Serial.{IsAnswerFrom, IsRun, whole}
 use Rattle.spec_classes.proofs.Answering.{IsAnswerBelow, below-all, below-next, below-skip, none-run, ready-numbered, ready-still, run-behind, run-noted, run-numbered, run-walked}
 use Rattle.spec_classes.proofs.serial.+orders.Goals.{add_each-then-left-session-gt0+in_ok-add_behind, add_each-else-left-session-gt0}
@@ -92,3 +94,14 @@ add_orders-returns t c =
     run-numbered tables (IsAnswerFrom tables c.args.left) l m c.add_each.new.world c.args.answered.now c.note.new.self c.requires.ready c.number_within.ensures.front same
     (λ ready. run-noted tables m c.add_each.new.world c.args.answered.now c.add_each.new.answered c.note.new.self c.args.left c.in_ok-number.number l.world
     (ap (λ (x : MarkedRunning). x.world) same) c.in_ok-number.ensures.known c.in_ok-add_each.ensures c.note.ensures.answers c.note.ensures.noted)
+
+-- one session less is left behind it
+pub add_each-add_behind-requires : goal.add_each-add_behind-requires
+add_each-add_behind-requires t c =
+    let left = c.args.left in
+    let k = c.loop-session.session in
+    let some : get_or left k 0 ≡ suc (get_or left k 0 - 1) = omega (arith, c.if-left-session-gt0.true) in
+    let less = total-set left k (get_or left k 0 - 1) some in (
+      omega (arith, c.decreases, less),
+      (length-set left k (get_or left k 0 - 1) ∙ c.requires.long, c.loop-session.invariant.ready),
+    )

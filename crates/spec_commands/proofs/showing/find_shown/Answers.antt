@@ -8,7 +8,7 @@ returns-in-Ok-show_line-clause-found c = λ rank line.
     let declares = c.in-Ok.ensures in
     record {
       lines = c.in-Ok-statement_texts.ensures.lines;
-      level_lines = c.in-Ok-level_lines.ensures;
+      are_levels = c.in-Ok-levels_of.ensures;
       shows = record {
         is = declares.is;
         tables = c.in-Ok.tables.items;

@@ -1,8 +1,4 @@
-use Rattle.std.proofs.Common.{refl, sym, ◌∙◌}
-use Rattle.file_blocks.specs.Blocks.{sent_blocks}
-use Rattle.spec_texts.specs.Levels.{lines_from}
-use Rattle.spec_texts.specs.Statements.{idle_statements}
-use Rattle.spec_texts.specs.declared.statements.IdleSql.TheVariants.{OtherLevel}
+use Rattle.std.proofs.Common.{sym, ◌∙◌}
 use Rattle.line_moments.specs.Left.{shown}
 use Rattle.spec_commands.proofs.showing.order_json.Goals as goal
 
@@ -14,8 +10,8 @@ returns-in-Ok-json_of-clause-shown c =
       rank_is = c.requires.rank;
       statements = c.args.statements.now;
       lines = c.requires.statements;
-      levels = lines_from c.args.spec.now.text 0 (idle_statements OtherLevel (sent_blocks declares.is.tree));
-      level_lines = record { is = declares.is; are = refl };
+      levels = c.args.levels.now;
+      are_levels = c.requires.levels;
       shown = c.in-Ok.shown;
       shows = record {
         is = declares.is;

@@ -12,7 +12,7 @@ use Rattle.spec_texts.proofs.steps.statement_texts.Goals as goal
 -- what is read again is the tree that the spec is bound of
 pub returns-clause-lines : goal.returns-clause-lines
 returns-clause-lines c =
-    let is = c.known.ensures in
+    let is = c.known.ensures.at in
     let again : map session_tree c.deref.result.now ≡ is.tree.sessions =
     ap (λ (ss : List Session). map session_tree ss) c.deref.ensures.value
     ∙ ap (λ (t : SpecTree). t.sessions) (c.in_ok-text.ensures is.tree is.is_spec) in

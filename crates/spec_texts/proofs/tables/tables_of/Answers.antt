@@ -10,7 +10,7 @@ use Rattle.spec_texts.proofs.tables.tables_of.Goals as goal
 -- what is read again is the tree that the spec is bound of
 pub wants_memory-requires : goal.wants_memory-requires
 wants_memory-requires c =
-    let is = c.known.ensures in
+    let is = c.known.ensures.at in
     setups-want-memory c.in-Err.stop (declared main_setup c.new-tables.result.items (map block_tree c.deref.result.now))
     c.args.spec.now.text c.args.spec.now is (
     ap (λ (ts : List Table). declared main_setup ts (map block_tree c.deref.result.now)) c.new-tables.ensures.items
@@ -20,7 +20,7 @@ wants_memory-requires c =
 
 pub returns-in-Ok : goal.returns-in-Ok
 returns-in-Ok c =
-    let is = c.known.ensures in
+    let is = c.known.ensures.at in
     record {
       is = is;
       blocks = c.in-Ok._setups.items;

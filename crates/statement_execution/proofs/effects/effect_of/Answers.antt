@@ -55,7 +55,7 @@ returns-in-Begin g c =
     let rows = sight c.args.session (g.S.Sight.layers c.args.rows) in
     c.nothing.ensures
     ∙ elim c.in-Begin.is [
-      | inl e ↦ sym (effect-begin rows) ∙ ap (λ (st : Bound). effect st rows) (sym e)
+      | inl e ↦ sym (effect-begin rows e.0) ∙ ap (λ (st : Bound). effect st rows) (sym e.1)
       | inr more ↦ elim more [
         | inl e ↦ sym (effect-commit rows) ∙ ap (λ (st : Bound). effect st rows) (sym e)
         | inr e ↦ sym (effect-rollback rows) ∙ ap (λ (st : Bound). effect st rows) (sym e)

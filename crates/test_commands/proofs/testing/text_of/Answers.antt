@@ -14,6 +14,6 @@ returns-in-Ok-clause-text c =
 pub returns : goal.returns
 returns c = record {
   text = tt;
-  refused = λ known. subst (IsNotTested known c.args.bytes.now c.args.name.now) (sym c.told_as.ensures)
-      (not-tested _ _ _ _ _ c.all_of_classes-wanted.result c.all_of_classes-wanted.ensures c.in-Err.fault c.in-Err.ensures known);
+  refused = λ known. subst (IsNotTested known c.args.level c.args.bytes.now c.args.name.now) (sym c.told_as.ensures)
+      (not-tested _ _ _ _ _ c.args.level c.all_of_classes-wanted.result c.all_of_classes-wanted.ensures c.in-Err.fault c.in-Err.ensures known);
 }

@@ -18,8 +18,8 @@ built-requires-clause-few c =
     (subst (λ fs. RanksBelow (ranks c.args.spec.now.run) (entries_of fs)) (sym c.as_slice.ensures.value)
     (read-below c.args.spec.now.run (items_view c.args.values.now) (entries_of c.in-Ok.facts.items) c.in-Ok.ensures))
 
-pub of_facts-requires : goal.of_facts-requires
-of_facts-requires c =
+pub of_facts-requires-clause-recordable : goal.of_facts-requires-clause-recordable
+of_facts-requires-clause-recordable c =
     subst (AllRecordable c.args.spec.now.run) (sym (c.in_ok-builder.ensures ∙ ap (λ fs. from_list (entries_of fs)) c.as_slice.ensures.value))
     (facts-recordable c.args.spec.now.run (items_view c.args.values.now) (entries_of c.in-Ok.facts.items) c.in-Ok.ensures)
 

@@ -2,7 +2,7 @@ use Rattle.std.proofs.Common.{◌∙◌, ap, subst, sym}
 use Rattle.std.specs.FinMap.Entries.{find}
 use Rattle.finite_maps.specs.Entries.{IsInOrder}
 use Rattle.lock_modes.specs.Value.{value_cmp}
-use Rattle.row_tables.specs.Layers.{IsOnlyWriterIn, rows_of, sight}
+use Rattle.row_tables.specs.Layers.{rows_of, sight}
 use Rattle.row_tables.proofs.TableLemmas.{find-rows_of, sorted-rows_of}
 use Rattle.marked_rows.specs.Cells.{MarkedRows}
 use Rattle.marked_rows.specs.Places.{keys_of}
@@ -16,8 +16,8 @@ new-requires c =
     let i = c.self.inside in
     let table = c.table-keys in
     let es = table.result.now in
-    subst (λ cs. CanShow i.rows.list (keys_of es) (numbers_of Own cs es)) (sym c.as_slice.ensures)
-    (scan-shows i.places i.rows i.cells i.written c.self.invariant c.args.table es table.ensures.rise table.ensures.there table.ensures.absent Own)
+    subst (λ cs. CanShow i.rows.list (keys_of es) (numbers_of (Own c.args.session) cs es)) (sym c.as_slice.ensures)
+    (scan-shows i.places i.rows i.cells i.written c.self.invariant c.args.table es table.ensures.rise table.ensures.there table.ensures.absent (Own c.args.session))
 
 pub returns-clause-rows : goal.returns-clause-rows
 returns-clause-rows c =
@@ -26,9 +26,8 @@ returns-clause-rows c =
     let es = table.result.now in
     let s = c.args.session in
     let t = c.args.table in
-    let only = subst (λ (m : MarkedRows). IsOnlyWriterIn s t m.now) (sym c.self.view_is) c.requires in
-    let rows = seen-rows i.places i.rows i.cells i.written c.self.invariant t es table.ensures.rise table.ensures.there table.ensures.absent s only in
-    c.new.ensures ∙ ap (λ cs. shown i.rows.list (keys_of es) (numbers_of Own cs es)) c.as_slice.ensures ∙ rows
+    let rows = seen-rows i.places i.rows i.cells i.written c.self.invariant t es table.ensures.rise table.ensures.there table.ensures.absent s in
+    c.new.ensures ∙ ap (λ cs. shown i.rows.list (keys_of es) (numbers_of (Own c.args.session) cs es)) c.as_slice.ensures ∙ rows
     ∙ ap (λ (m : MarkedRows). rows_of t (sight s m.now)) c.self.view_is
 
 pub returns-clause-in_order : goal.returns-clause-in_order

@@ -35,11 +35,11 @@ trace_on-requires-clause-ready c =
     ≡ standing x.store (grant x.locks s) (record { status = (member_at x i).state.status; transcript = Resumed ∷ [] }) =
     c.in_ok-tell.ensures.told ∙ ap (λ (z : Standing). told z Resumed) c.in_ok-forget.ensures.forgot
     ∙ ap (λ (z : Standing). told (forgot z) Resumed) (c.in_ok-grant.ensures.granted s next) in
-    let go : IsToGo i x.store (grant x.locks s) (statements_of steps r.step) r.point.statement r.point.request =
-    subst (λ j. (member_at x j).rest ≡ Some r → IsToGo j x.store (grant x.locks s) (statements_of steps r.step) r.point.statement r.point.request)
+    let go : IsToGo i x.store (grant x.locks s) (member_at x i).state.status (statements_of steps r.step) r.point.statement r.point.request =
+    subst (λ j. (member_at x j).rest ≡ Some r → IsToGo j x.store (grant x.locks s) (member_at x j).state.status (statements_of steps r.step) r.point.statement r.point.request)
     c.requires.next.2 (resumed-to-go steps x s c.requires.stage next r) is in
-    subst (λ (z : Standing). IsToGo i z.layers z.locks c.statements.result.now r.point.statement r.point.request) (sym there)
-    (subst (λ sts. IsToGo i x.store (grant x.locks s) sts r.point.statement r.point.request) (sym c.statements.ensures.are) go)
+    subst (λ (z : Standing). IsToGo i z.layers z.locks z.own.status c.statements.result.now r.point.statement r.point.request) (sym there)
+    (subst (λ sts. IsToGo i x.store (grant x.locks s) (member_at x i).state.status sts r.point.statement r.point.request) (sym c.statements.ensures.are) go)
 
 pub trace_on-requires-clause-inside : goal.trace_on-requires-clause-inside
 trace_on-requires-clause-inside c = subst (λ n. c.args.session < n) (sym (c.in_ok-tell.ensures.past ∙ c.in_ok-forget.ensures.past ∙ c.in_ok-grant.ensures.past))

@@ -6,7 +6,7 @@ use Rattle.session_machine.specs.SharedStage.{staged_of}
 use Rattle.session_machine.specs.Telling.{sent_standing}
 use Rattle.session_steps.specs.declared.point.Point.{Point}
 use Rattle.session_steps.specs.Going.{Standing, IsToGo, told}
-use Rattle.session_steps.specs.Stage.{statements_of, standing_at}
+use Rattle.session_steps.specs.Stage.{statements_of, member_at, standing_at}
 use Rattle.session_steps.proofs.Stages.{sent-to-go-now}
 use Rattle.session_machine.proofs.Seeing.{traces-at, told-is}
 use Rattle.session_machine.proofs.stage.SharedStage.sent_moment.Goals as goal
@@ -19,11 +19,11 @@ trace_on-requires-clause-ready c =
     let i = c.args.session in
     let there : standing_at i (staged_of c.tell.new.self) ≡ sent_standing x i k =
     c.in_ok-tell.ensures.told ∙ ap (λ (z : Standing). told z (Sent k)) c.in_ok-forget.ensures.forgot in
-    let go : IsToGo i x.store x.locks (statements_of steps k) 0 0 =
+    let go : IsToGo i x.store x.locks (member_at x i).state.status (statements_of steps k) 0 0 =
     sent-to-go-now steps x k i c.requires.stage c.requires.sender c.requires.inside c.requires.idle in
-    subst (λ (p : Point). IsToGo i c.tell.new.self.store c.tell.new.self.locks c.statements.result.now p.statement p.request) (sym c.start.ensures)
-    (subst (λ (z : Standing). IsToGo i z.layers z.locks c.statements.result.now 0 0) (sym there)
-    (subst (λ sts. IsToGo i x.store x.locks sts 0 0) (sym c.statements.ensures.are) go))
+    subst (λ (p : Point). IsToGo i c.tell.new.self.store c.tell.new.self.locks (standing_at i (staged_of c.tell.new.self)).own.status c.statements.result.now p.statement p.request) (sym c.start.ensures)
+    (subst (λ (z : Standing). IsToGo i z.layers z.locks z.own.status c.statements.result.now 0 0) (sym there)
+    (subst (λ sts. IsToGo i x.store x.locks (member_at x i).state.status sts 0 0) (sym c.statements.ensures.are) go))
 
 pub trace_on-requires-clause-inside : goal.trace_on-requires-clause-inside
 trace_on-requires-clause-inside c = subst (λ n. c.args.session < n) (sym (c.in_ok-tell.ensures.past ∙ c.in_ok-forget.ensures.past)) c.requires.inside

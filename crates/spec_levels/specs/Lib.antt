@@ -1,0 +1,4 @@
+pub mod Asking
+pub mod Levels
+pub mod Levelled
+pub mod Parts
