@@ -5,8 +5,9 @@ use Rattle.lock_modes.specs.RowPlace.{RowPlace}
 use Rattle.bound_statements.specs.declared.statement.Bound.{Bound}
 use Rattle.bound_statements.specs.declared.statement.Bound.TheVariants.{Select, Insert, Update, Delete, Begin, Commit, Rollback, Lock, SetVariable}
 use Rattle.bound_statements.specs.declared.statement.Level.{Level}
+use Rattle.bound_statements.specs.declared.statement.Level.TheVariants.{Serializable}
 use Rattle.bound_statements.specs.declared.statement.RowLock.{RowLock}
-use Rattle.bound_statements.specs.Levels.{is_committed, is_unlocked, asked, level_at, lock_at, at_level, levelled, AsksAlways}
+use Rattle.bound_statements.specs.Levels.{is_committed, is_unlocked, asked, changed_level, lock_at, at_level, levelled, AsksAlways}
 use Rattle.bound_statements.specs.Plan.{plan, nowait, looks_at}
 
 -- ---- what a level leaves as it is
@@ -53,10 +54,28 @@ asked-locked st e = ap (λ b. cond b [] (plan st)) e
 pub asked-unlocked : (st : Bound) → is_unlocked st ≡ true → asked st ≡ []
 asked-unlocked st e = ap (λ b. cond b [] (plan st)) e
 
+-- ---- at SERIALIZABLE
+
+serializable-level : (old : Option Level) → is_committed (changed_level (Some Serializable) old) ≡ false
+serializable-level None = refl
+serializable-level (Some level) = refl
+
+-- no statement is unlocked in a block at SERIALIZABLE
+pub serializable-locked : (st : Bound) → is_unlocked (at_level Serializable st) ≡ false
+serializable-locked (Select t key c by out lock) = serializable-level lock.level
+serializable-locked (Insert t key rows) = refl
+serializable-locked (Update t key sets c) = refl
+serializable-locked (Delete t key c) = refl
+serializable-locked (Lock t m n) = refl
+serializable-locked (Begin named) = refl
+serializable-locked Commit = refl
+serializable-locked Rollback = refl
+serializable-locked SetVariable = refl
+
 -- ---- statements that ask always
 
-level-none : (new old : Option Level) → old ≡ None → level_at new old ≡ old
-level-none new old e = ap (level_at new) e ∙ sym e
+level-none : (new old : Option Level) → old ≡ None → changed_level new old ≡ old
+level-none new old e = ap (changed_level new) e ∙ sym e
 
 lock-none : (new : Option Level) (lock : RowLock) → lock.level ≡ None → lock_at new lock ≡ lock
 lock-none new lock e = ap (λ (l : Option Level). record lock { level = l }) (level-none new lock.level e)
@@ -84,7 +103,7 @@ always-locked Commit e = refl
 always-locked Rollback e = refl
 always-locked SetVariable e = refl
 
-none-at : (old : Option Level) → level_at None old ≡ None
+none-at : (old : Option Level) → changed_level None old ≡ None
 none-at None = refl
 none-at (Some l) = refl
 

@@ -30,13 +30,14 @@ asked st = cond (is_unlocked st) [] (plan st)
 
 -- ---- the level of a block
 
--- a plain select has another level, or none; any other one stays as it is
-abbrev pub level_at : Option Level → Option Level → Option Level
-level_at new None = None
-level_at new (Some level) = new
+-- another level, or none, in place of the one that is there
+abbrev pub changed_level : Option Level → Option Level → Option Level
+changed_level new None = None
+changed_level new (Some level) = new
 
+-- so the lock of a plain select; any other one has no level and stays as it is
 abbrev pub lock_at : Option Level → RowLock → RowLock
-lock_at new lock = record { exclusive = lock.exclusive; nowait = lock.nowait; level = level_at new lock.level }
+lock_at new lock = record { exclusive = lock.exclusive; nowait = lock.nowait; level = changed_level new lock.level }
 
 -- the statement in a block of this level
 abbrev pub at_level : Level → Bound → Bound

@@ -1,7 +1,7 @@
 //! Statements as the machine runs them.
 
 ghost use Rattle.std.specs.Prelude.{◌≡◌};
-ghost use Rattle.bound_statements.specs.Levels.{levelled, lock_at, named_by};
+ghost use Rattle.bound_statements.specs.Levels.{block_level, levelled, lock_at, named_by};
 
 use crate::condition::Condition;
 use crate::expression::Expression;
@@ -61,6 +61,18 @@ pub enum Level {
     Serializable,
     /// A plain select asks for no lock, and reads what is committed at that moment.
     Committed,
+}
+
+impl Level {
+    /// The level of a transaction where this one is named, or none.
+    pub fn of_transaction(named: Option<Level>) -> Level
+        ensures { result ≡ block_level named }
+    {
+        match named {
+            None => Level::Serializable,
+            Some(level) => level,
+        }
+    }
 }
 
 /// How a select locks the rows that it looks at.

@@ -3,7 +3,6 @@
 ghost use Rattle.std.specs.Prelude.{◌≡◌, ◌<◌, ◌⊎◌, false, IfOk, OnOk};
 ghost use Rattle.lock_queues.specs.Locks.{waits_now};
 ghost use Rattle.statement_execution.specs.Run.{MayLook};
-ghost use Rattle.bound_statements.specs.Levels.{block_level};
 ghost use Rattle.bound_statements.specs.declared.statement.Level.{Level};
 ghost use Rattle.machine_model.specs.Session.{Begins, Works, kind};
 ghost use Rattle.session_steps.specs.Going.{Does};
@@ -61,19 +60,9 @@ fn work<S: Stage>(
     }
     match statement {
         Bound::Begin(named) => {
-            begin(stage, session, level_of(*named))?;
+            begin(stage, session, Level::of_transaction(*named))?;
             Ok(None)
         }
         _ => stage.run(alloc, session, statement),
-    }
-}
-
-/// The level of a block that names this one, or none.
-fn level_of(named: Option<Level>) -> Level
-    ensures { result ≡ block_level named }
-{
-    match named {
-        None => Level::Serializable,
-        Some(level) => level,
     }
 }

@@ -19,7 +19,7 @@ use Rattle.shown_texts.specs.Lanes.{begun_rail, cell, cell_text, left_by, row_te
 use Rattle.shown_texts.specs.Orders.{comes_in, is_of, is_step, order_text, width_of, widest_from}
 use Rattle.shown_texts.specs.Pages.{Page, all_lines, column_width, frame, hanging_lines, head_row}
 use Rattle.shown_texts.specs.Levels.{level_text}
-use Rattle.shown_texts.specs.Pages.{heads, key_lines, key_text, lanes_part, left_lines, left_names, level_lines}
+use Rattle.shown_texts.specs.Pages.{heads, key_lines, key_text, lanes_part, left_lines, left_names, level_part}
 use Rattle.shown_texts.specs.Pages.{legend, legend_from, legend_item, legend_line, meaning_if, or_nothing, part}
 use Rattle.shown_texts.specs.Pages.{plain_lines, rest_part, row_lines, shown_shortened, standing_from}
 use Rattle.shown_texts.specs.Pages.{standing_lines, standing_text, stands, step_room, table_head}
@@ -260,9 +260,9 @@ module _ (p : Page) (small : IsSmall p) where
       let f = frame p in
       let rs = rows (frame p) p.steps p.shown in
       all-append IsNarrow (top_lines f p) (lanes_part p f rs ++ rest_part p f rs)
-      (all-append IsNarrow (plain_lines (title f p)) (level_lines p ++ plain_lines (order_text p.steps p.shown.moments))
+      (all-append IsNarrow (plain_lines (title f p)) (level_part p ++ plain_lines (order_text p.steps p.shown.moments))
       (plain-narrow (title f p))
-      (all-append IsNarrow (level_lines p) (plain_lines (order_text p.steps p.shown.moments))
+      (all-append IsNarrow (level_part p) (plain_lines (order_text p.steps p.shown.moments))
       (all-flat IsNarrow plain_lines plain-narrow (level_text p.level p.other_lines)) (plain-narrow (order_text p.steps p.shown.moments))))
       (all-append IsNarrow (lanes_part p f rs) (rest_part p f rs)
       (all-append IsNarrow (part (map (row_text f) (head_row f ∷ rs))) (part (waiting_from f 0 p.shown.standings))

@@ -110,12 +110,12 @@ abbrev pub title : Frame → Page → List ℕ
 title f p = shown_text p.path ++ (rank_text p.rank p.orders ++ wide_text (full_width f))
 
 -- what is said of levels
-abbrev pub level_lines : Page → List (List ℕ)
-level_lines p = flat_map plain_lines (level_text p.level p.other_lines)
+abbrev pub level_part : Page → List (List ℕ)
+level_part p = flat_map plain_lines (level_text p.level p.other_lines)
 
 -- the title, and the order beneath it
 abbrev pub top_lines : Frame → Page → List (List ℕ)
-top_lines f p = plain_lines (title f p) ++ (level_lines p ++ plain_lines (order_text p.steps p.shown.moments))
+top_lines f p = plain_lines (title f p) ++ (level_part p ++ plain_lines (order_text p.steps p.shown.moments))
 
 -- a reason behind others
 abbrev pub further_reason : List (List ℕ) → Edge → List ℕ

@@ -178,7 +178,7 @@ fn put_levels(
     lines: &mut Items<Items<char>>,
     page: &Page<'_>,
 ) -> Result<(), AllocError>
-    ensures { OnOk result (lines.new ≡ lines.old ++ spec.level_lines page.now) }
+    ensures { OnOk result (lines.new ≡ lines.old ++ spec.level_part page.now) }
 {
     let texts = level_text(alloc, page.levels)?;
     put_plain(alloc, lines, texts.as_slice())

@@ -14,7 +14,7 @@ use Rattle.spec_checks.specs.Idle.{IsIdleText}
 
 module _ {W : Type 0} (contents : W → Option (List ℕ)) where
   is-check : (bytes idle : List ℕ) (file : SpecFile) → IsFileOf bytes file → IsIdleText bytes idle → IsCheck bytes (check_lines file ++ idle)
-  is-check bytes idle file is told = record { file = file; is_file = is; idle = idle; is_idle = told; text_is = refl }
+  is-check bytes idle file is told = record { file = file; is_file = is; idle = idle; has_part = told; text_is = refl }
 
   -- nothing is written, or a front of how much it has
   pub check-refused : (old new : Counted W) (bytes idle : List ℕ) (fault : CountFault) → IsIdleText bytes idle

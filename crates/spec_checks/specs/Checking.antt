@@ -15,7 +15,7 @@ pub record IsCheck (bytes text : List ℕ) : Type 0 where
   pub file : SpecFile
   pub is_file : IsFileOf bytes file
   pub idle : List ℕ
-  pub is_idle : IsIdleText bytes idle
+  pub has_part : IsIdleText bytes idle
   pub text_is : text ≡ check_lines file ++ idle
 
 -- that is written, or a front of it; or nothing, where the bytes are no spec file

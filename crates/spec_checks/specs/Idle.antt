@@ -4,9 +4,9 @@ use Rattle.std.specs.List.{flat_map}
 use Rattle.spec_reader.specs.Text.{IsSpec}
 use Rattle.spec_reader.specs.Tree.{BlockTree, SessionTree, SpecTree}
 use Rattle.file_blocks.specs.Blocks.{sent_blocks}
-use Rattle.spec_texts.specs.declared.statements.IdleSql.TheVariants.{Level, Setting, NotNull}
+use Rattle.spec_texts.specs.declared.statements.SqlPart.TheVariants.{Level, Setting, NotNull}
 use Rattle.spec_texts.specs.Levels.{lines_from}
-use Rattle.spec_texts.specs.Statements.{idle_statements}
+use Rattle.spec_texts.specs.Statements.{statements_with}
 
 -- where a teardown's block begins, if there is one
 abbrev pub place_of : Option BlockTree → List ℕ
@@ -31,9 +31,9 @@ idle_line text words (n ∷ ns) = codes "no effect: " ++ (words ++ (codes ", lin
 -- what is told of the file of this tree, the markers of whose lines are there
 abbrev pub idle_lines : List ℕ → SpecTree → List ℕ → List ℕ
 idle_lines text tree markers =
-    idle_line text (codes "isolation level") (idle_statements Level (sent_blocks tree))
-    ++ (idle_line text (codes "SET") (idle_statements Setting (sent_blocks tree))
-    ++ (idle_line text (codes "NOT NULL") (idle_statements NotNull (sent_blocks tree))
+    idle_line text (codes "isolation level") (statements_with Level (sent_blocks tree))
+    ++ (idle_line text (codes "SET") (statements_with Setting (sent_blocks tree))
+    ++ (idle_line text (codes "NOT NULL") (statements_with NotNull (sent_blocks tree))
     ++ (idle_line text (codes "teardown") (teardowns tree)
     ++ idle_line text (codes "marker") markers)))
 

@@ -4,14 +4,14 @@ ghost use Rattle.std.specs.Prelude.{◌≡◌, ◌++◌, [], ℕ, List, codes, m
 ghost use Rattle.spec_reader.specs.Whole.{spec_tree};
 ghost use Rattle.file_blocks.specs.Blocks.{sent_tree};
 ghost use Rattle.spec_checks.specs.Idle.{idle_line, idle_lines, teardowns};
-ghost use Rattle.spec_texts.specs.Statements.{idle_statements};
+ghost use Rattle.spec_texts.specs.Statements.{statements_with};
 
 use crate::markers::markers;
 use crate::teardowns::teardowns;
 use crate::telling::push_line;
 use file_blocks::{SentBlock, sent_blocks};
 use spec_reader::SpecText;
-use spec_texts::{IdleSql, idle_statements};
+use spec_texts::{SqlPart, statements_with};
 use std::alloc::{AllocError, Global};
 
 /// What is told of the parts of a file that have no effect, a line for each kind that it has.
@@ -33,24 +33,24 @@ fn push_statements(
     blocks: &[SentBlock],
     told: &mut String,
 ) -> Result<(), AllocError>
-    ensures { OnOk result (string_bytes told.new ≡ string_bytes told.old ++ (idle_line text.now (codes "isolation level") (idle_statements IdleSql.Level (map sent_tree blocks.now)) ++ (idle_line text.now (codes "SET") (idle_statements IdleSql.Setting (map sent_tree blocks.now)) ++ idle_line text.now (codes "NOT NULL") (idle_statements IdleSql.NotNull (map sent_tree blocks.now))))) }
+    ensures { OnOk result (string_bytes told.new ≡ string_bytes told.old ++ (idle_line text.now (codes "isolation level") (statements_with SqlPart.Level (map sent_tree blocks.now)) ++ (idle_line text.now (codes "SET") (statements_with SqlPart.Setting (map sent_tree blocks.now)) ++ idle_line text.now (codes "NOT NULL") (statements_with SqlPart.NotNull (map sent_tree blocks.now))))) }
 {
-    push_kind(alloc, text, "isolation level", IdleSql::Level, blocks, told)?;
-    push_kind(alloc, text, "SET", IdleSql::Setting, blocks, told)?;
-    push_kind(alloc, text, "NOT NULL", IdleSql::NotNull, blocks, told)
+    push_kind(alloc, text, "isolation level", SqlPart::Level, blocks, told)?;
+    push_kind(alloc, text, "SET", SqlPart::Setting, blocks, told)?;
+    push_kind(alloc, text, "NOT NULL", SqlPart::NotNull, blocks, told)
 }
 
 fn push_kind(
     alloc: Global,
     text: &[u8],
     words: &str,
-    kind: IdleSql,
+    kind: SqlPart,
     blocks: &[SentBlock],
     told: &mut String,
 ) -> Result<(), AllocError>
-    ensures { OnOk result (string_bytes told.new ≡ string_bytes told.old ++ idle_line text.now words.now (idle_statements kind (map sent_tree blocks.now))) }
+    ensures { OnOk result (string_bytes told.new ≡ string_bytes told.old ++ idle_line text.now words.now (statements_with kind (map sent_tree blocks.now))) }
 {
-    let places = idle_statements(alloc, kind, blocks)?;
+    let places = statements_with(alloc, kind, blocks)?;
     push_line(alloc, text, words, &places, told)
 }
 

@@ -26,11 +26,11 @@ line_of at None = []
 line_of at (Some word) = record { at = at; word = word } ∷ []
 
 -- the line that a comment is, where it asks for a level
-abbrev pub level_line : CommentLine → List AskingLine
-level_line c = line_of c.at (behind_label (codes "level:") c.text)
+abbrev pub asking_line : CommentLine → List AskingLine
+asking_line c = line_of c.at (behind_label (codes "level:") c.text)
 
-abbrev pub level_lines : List CommentLine → List AskingLine
-level_lines cs = flat_map level_line cs
+abbrev pub asking_lines : List CommentLine → List AskingLine
+asking_lines cs = flat_map asking_line cs
 
 -- one line may ask for a level
 abbrev pub read_alone : Level → List AskingLine → Result (Option Level) WrongLine
@@ -48,4 +48,4 @@ read_level (l ∷ ls) = read_first (level_named l.word) l.at ls
 -- the level that is asked for: that of a word which is given, or else the one for which the file asks
 abbrev pub asked_level : Option Level → List ℕ → Result (Option Level) WrongLine
 asked_level (Some level) bytes = Ok (Some level)
-asked_level None bytes = read_level (level_lines (comment_lines bytes))
+asked_level None bytes = read_level (asking_lines (comment_lines bytes))

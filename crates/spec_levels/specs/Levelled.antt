@@ -8,8 +8,8 @@ use Rattle.file_blocks.specs.Blocks.{sent_blocks}
 use Rattle.spec_binding.specs.SpecFiles.{IsNoSpec}
 use Rattle.spec_reader.specs.Tree.{SpecTree}
 use Rattle.spec_texts.specs.Levels.{lines_from}
-use Rattle.spec_texts.specs.Statements.{idle_statements}
-use Rattle.spec_texts.specs.declared.statements.IdleSql.TheVariants.{RepeatableRead}
+use Rattle.spec_texts.specs.Statements.{statements_with}
+use Rattle.spec_texts.specs.declared.statements.SqlPart.TheVariants.{RepeatableRead}
 use Rattle.spec_levels.specs.Asking.{asked_level}
 use Rattle.spec_levels.specs.declared.asking.LevelFault.{LevelFault}
 use Rattle.spec_levels.specs.declared.asking.LevelFaultKind.TheVariants.{NotModelled}
@@ -19,7 +19,7 @@ use Rattle.spec_levels.specs.declared.spec.LevelledFault.TheVariants.{Spec, Leve
 
 -- the lines on which a transaction of a file begins at REPEATABLE READ
 abbrev pub repeatable_lines : List ℕ → SpecTree → List ℕ
-repeatable_lines bytes tree = lines_from bytes 0 (idle_statements RepeatableRead (sent_blocks tree))
+repeatable_lines bytes tree = lines_from bytes 0 (statements_with RepeatableRead (sent_blocks tree))
 
 -- the bytes are this spec file at the level that is asked for, by a word or by a line of the file; where one is, no transaction begins at REPEATABLE READ
 pub record IsLevelledSpec (bytes : List ℕ) (word : Option Level) (file : SpecFile) : Type 0 where

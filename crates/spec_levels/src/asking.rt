@@ -2,7 +2,7 @@
 
 ghost use Rattle.std.specs.Prelude.{◌≡◌, ◌++◌, [], IfOk, map};
 ghost use Rattle.comment_lines.specs.Comments.{comment_lines, seen};
-ghost use Rattle.spec_levels.specs.Asking.{level_line, level_lines, level_named, read_alone, read_first, read_level, seen_line};
+ghost use Rattle.spec_levels.specs.Asking.{asking_line, asking_lines, level_named, read_alone, read_first, read_level, seen_line};
 
 use crate::words::level_named;
 use bound_statements::Level;
@@ -36,11 +36,11 @@ pub(crate) struct LevelLine<'a> {
 }
 
 /// The lines of a spec file that ask for a level.
-pub(crate) fn level_lines<'a>(
+pub(crate) fn asking_lines<'a>(
     alloc: Global,
     text: &'a str,
 ) -> Result<Vec<LevelLine<'a>>, AllocError>
-    ensures { IfOk result (λ lines. map seen_line lines.items ≡ level_lines (comment_lines text.entry.now)) }
+    ensures { IfOk result (λ lines. map seen_line lines.items ≡ asking_lines (comment_lines text.entry.now)) }
 {
     let comments = comment_lines(alloc, text)?;
     let mut lines = Vec::new(alloc);
@@ -51,7 +51,7 @@ pub(crate) fn level_lines<'a>(
 }
 
 fn push_line<'a>(comment: Comment<'a>, lines: &mut Vec<LevelLine<'a>>) -> Result<(), AllocError>
-    ensures { IfOk result (λ _. map seen_line lines.new.items ≡ map seen_line lines.old.items ++ level_line (seen comment.entry)) }
+    ensures { IfOk result (λ _. map seen_line lines.new.items ≡ map seen_line lines.old.items ++ asking_line (seen comment.entry)) }
 {
     if let Some(word) = behind_label("level:", comment.text) {
         lines.push(LevelLine {

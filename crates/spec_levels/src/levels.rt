@@ -5,7 +5,7 @@ ghost use Rattle.spec_levels.specs.Levels.{AreLevels};
 
 use bound_specs::Spec;
 use bound_statements::Level;
-use spec_texts::level_lines;
+use spec_texts::other_level_lines;
 use std::alloc::{AllocError, Global};
 
 /// Under which level a spec stands, and where its file says another one.
@@ -21,7 +21,7 @@ pub struct Levels {
 pub fn levels_of(alloc: Global, spec: &Spec) -> Result<Levels, AllocError>
     ensures { IfOk result (AreLevels spec.now.text spec.now) }
 {
-    let other_lines = level_lines(alloc, spec)?;
+    let other_lines = other_level_lines(alloc, spec)?;
     Ok(Levels {
         asked: spec.levels(),
         other_lines,

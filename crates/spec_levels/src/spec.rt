@@ -6,7 +6,7 @@ ghost use Rattle.fault_texts.specs.Places.{place};
 ghost use Rattle.spec_levels.specs.Levelled.{IsLevelledSpec, IsNoLevelledSpec};
 ghost use Rattle.spec_levels.specs.Parts.{IsFirstUnmodelled, IsLevelFor, IsModelled, IsNoLevelFor, IsUnmodelled};
 
-use crate::asking::{LevelFault, LevelFaultKind, WrongLine, level_asked, level_lines};
+use crate::asking::{LevelFault, LevelFaultKind, WrongLine, asking_lines, level_asked};
 use bound_specs::Spec;
 use bound_statements::Level;
 use fault_texts::place_of;
@@ -86,7 +86,7 @@ fn level_in_text(alloc: Global, text: &str) -> Result<Option<Level>, LevelledFau
     ensures level { IfOk result (IsLevelFor text.now None) }
     ensures refused { IfErr result (IsNoLevelFor text.now None) }
 {
-    let Ok(lines) = level_lines(alloc, text) else {
+    let Ok(lines) = asking_lines(alloc, text) else {
         return Err(LevelledFault::NoMemory);
     };
     match level_asked(&lines) {

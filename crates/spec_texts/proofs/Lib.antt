@@ -4,4 +4,4 @@ mod Parts
 mod StepLines
 mod Worked
 mod Declaring
-mod IdleLemmas
+mod PartLemmas

@@ -16,8 +16,8 @@ use Rattle.bound_statements.specs.declared.statement.Level.TheVariants as asked
 use Rattle.spec_reader.specs.Tree.{BlockTree}
 use Rattle.bound_specs.specs.Binding.{offset_in, read_text}
 use Rattle.file_blocks.specs.Blocks.{SentTree}
-use Rattle.spec_texts.specs.declared.statements.IdleSql.{IdleSql}
-use Rattle.spec_texts.specs.declared.statements.IdleSql.TheVariants as idle
+use Rattle.spec_texts.specs.declared.statements.SqlPart.{SqlPart}
+use Rattle.spec_texts.specs.declared.statements.SqlPart.TheVariants as part
 
 -- one of one or more passes the test
 abbrev pub any_of : {A : Type 0} → (A → Bool) → Chain A → Bool
@@ -53,38 +53,38 @@ is_repeatable (Some RepeatableRead) = true
 is_repeatable (Some (Read word)) = false
 
 -- which kind is asked for
-abbrev pub begins_idle : IdleSql → Option Level → Bool
-begins_idle idle.Level level = is_some level
-begins_idle (idle.OtherLevel asked) level = is_other_level asked level
-begins_idle idle.RepeatableRead level = is_repeatable level
-begins_idle idle.Setting level = false
-begins_idle idle.NotNull level = false
+abbrev pub begin_has : SqlPart → Option Level → Bool
+begin_has part.Level level = is_some level
+begin_has (part.OtherLevel asked) level = is_other_level asked level
+begin_has part.RepeatableRead level = is_repeatable level
+begin_has part.Setting level = false
+begin_has part.NotNull level = false
 
-abbrev pub sets_idle : IdleSql → Bool
-sets_idle idle.Level = false
-sets_idle (idle.OtherLevel asked) = false
-sets_idle idle.RepeatableRead = false
-sets_idle idle.Setting = true
-sets_idle idle.NotNull = false
+abbrev pub set_has : SqlPart → Bool
+set_has part.Level = false
+set_has (part.OtherLevel asked) = false
+set_has part.RepeatableRead = false
+set_has part.Setting = true
+set_has part.NotNull = false
 
-abbrev pub declares_idle : IdleSql → Chain TablePart → Bool
-declares_idle idle.Level parts = false
-declares_idle (idle.OtherLevel asked) parts = false
-declares_idle idle.RepeatableRead parts = false
-declares_idle idle.Setting parts = false
-declares_idle idle.NotNull parts = any_of has_not_null parts
+abbrev pub table_has : SqlPart → Chain TablePart → Bool
+table_has part.Level parts = false
+table_has (part.OtherLevel asked) parts = false
+table_has part.RepeatableRead parts = false
+table_has part.Setting parts = false
+table_has part.NotNull parts = any_of has_not_null parts
 
 -- a level has no effect where none is asked for, as all transactions are serializable then; nor has a setting; and no value is null
-abbrev pub is_idle : IdleSql → Statement → Bool
-is_idle kind (tree.CreateTable n ps) = declares_idle kind ps
-is_idle kind (tree.Insert n names rows) = false
-is_idle kind (tree.Selects s) = false
-is_idle kind (tree.Update n as' c) = false
-is_idle kind (tree.Delete n c) = false
-is_idle kind (tree.Begin start level) = begins_idle kind level
-is_idle kind (tree.Ends word noise) = false
-is_idle kind (tree.Lock word n mode nowait) = false
-is_idle kind (tree.Set setting) = sets_idle kind
+abbrev pub has_part : SqlPart → Statement → Bool
+has_part kind (tree.CreateTable n ps) = table_has kind ps
+has_part kind (tree.Insert n names rows) = false
+has_part kind (tree.Selects s) = false
+has_part kind (tree.Update n as' c) = false
+has_part kind (tree.Delete n c) = false
+has_part kind (tree.Begin start level) = begin_has kind level
+has_part kind (tree.Ends word noise) = false
+has_part kind (tree.Lock word n mode nowait) = false
+has_part kind (tree.Set setting) = set_has kind
 
 -- what is read, and nothing of what is refused
 abbrev pub read_or_none : Result (List StatementAt) Fault → List StatementAt
@@ -92,12 +92,12 @@ read_or_none (Ok ss) = ss
 read_or_none (Err f) = []
 
 -- where such statements begin in the file, of those of a block that begins there
-abbrev pub idle_at : IdleSql → ℕ → List StatementAt → List ℕ
-idle_at kind block ss = map (λ (s : StatementAt). offset_in block s.0) (filter (λ (s : StatementAt). is_idle kind s.1) ss)
+abbrev pub with_at : SqlPart → ℕ → List StatementAt → List ℕ
+with_at kind block ss = map (λ (s : StatementAt). offset_in block s.0) (filter (λ (s : StatementAt). has_part kind s.1) ss)
 
-abbrev pub idle_in : IdleSql → BlockTree → List ℕ
-idle_in kind b = idle_at kind b.at (read_or_none (read_text b.text))
+abbrev pub with_in : SqlPart → BlockTree → List ℕ
+with_in kind b = with_at kind b.at (read_or_none (read_text b.text))
 
 -- of all blocks that are sent
-abbrev pub idle_statements : IdleSql → List SentTree → List ℕ
-idle_statements kind blocks = flat_map (λ (p : SentTree). idle_in kind p.block) blocks
+abbrev pub statements_with : SqlPart → List SentTree → List ℕ
+statements_with kind blocks = flat_map (λ (p : SentTree). with_in kind p.block) blocks

@@ -1,51 +1,40 @@
 //! Isolation levels that transactions name, by their lines.
 
 ghost use Rattle.std.specs.Prelude.{◌≡◌, ◌++◌, IfOk, OnOk};
-ghost use Rattle.bound_statements.specs.Levels.{block_level};
-ghost use Rattle.spec_texts.specs.Levels.{AreLevelLines, AreLinesOf, AreRepeatableLines, lines_from, new_line};
+ghost use Rattle.spec_texts.specs.Levels.{AreOtherLevelLines, AreLinesOf, AreRepeatableLines, lines_from, new_line};
 
 use crate::reading::read_again;
-use crate::statements::{IdleSql, idle_statements};
+use crate::statements::{SqlPart, statements_with};
 use bound_specs::Spec;
 use bound_statements::Level;
 use fault_texts::place_of;
 use file_blocks::sent_blocks;
 use std::alloc::{AllocError, Global};
 
-/// The lines of a spec's text on which a transaction begins with another isolation level than the one that is asked for, each once; where none is, than
+/// The lines of a spec's text on which a BEGIN names another isolation level than the one that is asked for, each once; where none is, than
 /// SERIALIZABLE. It fails for want of memory alone.
-pub fn level_lines(alloc: Global, spec: &Spec) -> Result<Vec<usize>, AllocError>
-    ensures { IfOk result (λ lines. AreLevelLines spec.now.text spec.now lines.items) }
+pub fn other_level_lines(alloc: Global, spec: &Spec) -> Result<Vec<usize>, AllocError>
+    ensures { IfOk result (λ lines. AreOtherLevelLines spec.now.text spec.now lines.items) }
 {
-    let asked = default_of(spec.levels());
-    lines_of(alloc, spec, IdleSql::OtherLevel(asked))
+    let level = Level::of_transaction(spec.levels());
+    lines_of(alloc, spec, SqlPart::OtherLevel(level))
 }
 
-/// The lines on which one begins at REPEATABLE READ, each once. It fails for want of memory alone.
+/// The lines on which one names REPEATABLE READ, each once. It fails for want of memory alone.
 pub fn repeatable_lines(alloc: Global, spec: &Spec) -> Result<Vec<usize>, AllocError>
     ensures { IfOk result (λ lines. AreRepeatableLines spec.now.text spec.now lines.items) }
 {
-    lines_of(alloc, spec, IdleSql::RepeatableRead)
+    lines_of(alloc, spec, SqlPart::RepeatableRead)
 }
 
-/// The level of a transaction that names none.
-fn default_of(asked: Option<Level>) -> Level
-    ensures { result ≡ block_level asked }
-{
-    match asked {
-        None => Level::Serializable,
-        Some(level) => level,
-    }
-}
-
-/// The lines of a spec's text on which statements of a kind begin, each once.
-fn lines_of(alloc: Global, spec: &Spec, kind: IdleSql) -> Result<Vec<usize>, AllocError>
+/// The lines of a spec's text on which statements with such a part begin, each once.
+fn lines_of(alloc: Global, spec: &Spec, kind: SqlPart) -> Result<Vec<usize>, AllocError>
     ensures { IfOk result (λ lines. AreLinesOf kind spec.now.text spec.now lines.items) }
 {
     spec.known();
     let file = read_again(alloc, spec)?;
     let blocks = sent_blocks(alloc, &file)?;
-    let places = idle_statements(alloc, kind, &blocks)?;
+    let places = statements_with(alloc, kind, &blocks)?;
     lines_at(alloc, spec.text().as_bytes(), &places)
 }
 

@@ -10,7 +10,7 @@ mod statements;
 mod steps;
 mod tables;
 
-pub use levels::{level_lines, lines_at, repeatable_lines};
-pub use statements::{IdleSql, idle_statements};
+pub use levels::{lines_at, other_level_lines, repeatable_lines};
+pub use statements::{SqlPart, statements_with};
 pub use steps::statement_texts;
 pub use tables::tables_of;

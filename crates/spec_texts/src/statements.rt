@@ -7,7 +7,7 @@ ghost use Rattle.sql_grammar.specs.Views.{chain_of, view_form};
 ghost use Rattle.spec_reader.specs.Views.{block_tree};
 ghost use Rattle.bound_specs.specs.Binding.{offset_in};
 ghost use Rattle.file_blocks.specs.Blocks.{sent_tree};
-ghost use Rattle.spec_texts.specs.Statements.{any_of, begins_idle, declares_idle, has_not_null, idle_at, idle_in, idle_statements, is_idle, is_not_null, is_level, is_other_level, is_repeatable, is_serializable, sets_idle};
+ghost use Rattle.spec_texts.specs.Statements.{any_of, begin_has, table_has, has_not_null, with_at, with_in, statements_with, has_part, is_not_null, is_level, is_other_level, is_repeatable, is_serializable, set_has};
 
 use bound_statements::Level as Asked;
 use file_blocks::SentBlock;
@@ -16,10 +16,10 @@ use sql_grammar::{CreateTable, Form, Level, Property, SqlErrorKind, Statement, T
 use sql_reader::read_sql;
 use std::alloc::{AllocError, Global};
 
-/// What a statement may have that has no effect.
+/// A part of a statement by whose lines something is told: that it has no effect, or is another one than what is asked for.
 #[derive(Clone, Copy)]
-pub enum IdleSql {
-    /// The isolation level of a BEGIN: all transactions are serializable.
+pub enum SqlPart {
+    /// The isolation level of a BEGIN, which has no effect where no level is asked for.
     Level,
     /// One that is not this.
     OtherLevel(Asked),
@@ -32,12 +32,12 @@ pub enum IdleSql {
 }
 
 /// Where the statements that have such a part begin in their file, of those in these blocks.
-pub fn idle_statements(
+pub fn statements_with(
     alloc: Global,
-    kind: IdleSql,
+    kind: SqlPart,
     blocks: &[SentBlock],
 ) -> Result<Vec<usize>, AllocError>
-    ensures { IfOk result (λ all. all.items ≡ idle_statements kind (map sent_tree blocks.now)) }
+    ensures { IfOk result (λ all. all.items ≡ statements_with kind (map sent_tree blocks.now)) }
 {
     let mut all = Vec::new(alloc);
     for sent in blocks {
@@ -48,11 +48,11 @@ pub fn idle_statements(
 
 fn push_block(
     alloc: Global,
-    kind: IdleSql,
+    kind: SqlPart,
     block: &Block,
     all: &mut Vec<usize>,
 ) -> Result<(), AllocError>
-    ensures { IfOk result (λ _. all.new.items ≡ all.old.items ++ idle_in kind (block_tree block.now)) }
+    ensures { IfOk result (λ _. all.new.items ≡ all.old.items ++ with_in kind (block_tree block.now)) }
 {
     match read_sql(alloc, &block.text) {
         Ok(statements) => push_statements(kind, block.at, &statements, all),
@@ -64,12 +64,12 @@ fn push_block(
 }
 
 fn push_statements(
-    kind: IdleSql,
+    kind: SqlPart,
     block: usize,
     statements: &[Statement],
     all: &mut Vec<usize>,
 ) -> Result<(), AllocError>
-    ensures { IfOk result (λ _. all.new.items ≡ all.old.items ++ idle_at kind block (seen statements.now)) }
+    ensures { IfOk result (λ _. all.new.items ≡ all.old.items ++ with_at kind block (seen statements.now)) }
 {
     for statement in statements {
         push_statement(kind, block, statement, all)?;
@@ -78,14 +78,14 @@ fn push_statements(
 }
 
 fn push_statement(
-    kind: IdleSql,
+    kind: SqlPart,
     block: usize,
     statement: &Statement,
     all: &mut Vec<usize>,
 ) -> Result<(), AllocError>
-    ensures { IfOk result (λ _. all.new.items ≡ all.old.items ++ idle_at kind block ((statement.now.at, view_form statement.now.form) ∷ [])) }
+    ensures { IfOk result (λ _. all.new.items ≡ all.old.items ++ with_at kind block ((statement.now.at, view_form statement.now.form) ∷ [])) }
 {
-    if is_idle(kind, &statement.form) {
+    if has_part(kind, &statement.form) {
         all.push(offset_in(block, statement.at))?;
     }
     Ok(())
@@ -98,31 +98,31 @@ fn offset_in(block: usize, at: usize) -> usize
     block.saturating_add(at)
 }
 
-fn is_idle(kind: IdleSql, form: &Form) -> bool
-    ensures { result ≡ is_idle kind (view_form form.now) }
+fn has_part(kind: SqlPart, form: &Form) -> bool
+    ensures { result ≡ has_part kind (view_form form.now) }
 {
     match form {
-        Form::CreateTable(table) => declares_idle(kind, table),
+        Form::CreateTable(table) => table_has(kind, table),
         Form::Insert(_) => false,
         Form::Select(_) => false,
         Form::Update(_) => false,
         Form::Delete(_) => false,
-        Form::Begin(begin) => begins_idle(kind, begin.level),
+        Form::Begin(begin) => begin_has(kind, begin.level),
         Form::End(_) => false,
         Form::Lock(_) => false,
-        Form::Set(_) => sets_idle(kind),
+        Form::Set(_) => set_has(kind),
     }
 }
 
-fn begins_idle(kind: IdleSql, level: Option<Level>) -> bool
-    ensures { result ≡ begins_idle kind level }
+fn begin_has(kind: SqlPart, level: Option<Level>) -> bool
+    ensures { result ≡ begin_has kind level }
 {
     match kind {
-        IdleSql::Level => level.is_some(),
-        IdleSql::OtherLevel(asked) => is_other_level(asked, level),
-        IdleSql::RepeatableRead => is_repeatable(level),
-        IdleSql::Setting => false,
-        IdleSql::NotNull => false,
+        SqlPart::Level => level.is_some(),
+        SqlPart::OtherLevel(asked) => is_other_level(asked, level),
+        SqlPart::RepeatableRead => is_repeatable(level),
+        SqlPart::Setting => false,
+        SqlPart::NotNull => false,
     }
 }
 
@@ -164,27 +164,27 @@ fn is_repeatable(level: Option<Level>) -> bool
     }
 }
 
-fn sets_idle(kind: IdleSql) -> bool
-    ensures { result ≡ sets_idle kind }
+fn set_has(kind: SqlPart) -> bool
+    ensures { result ≡ set_has kind }
 {
     match kind {
-        IdleSql::Level => false,
-        IdleSql::OtherLevel(_) => false,
-        IdleSql::RepeatableRead => false,
-        IdleSql::Setting => true,
-        IdleSql::NotNull => false,
+        SqlPart::Level => false,
+        SqlPart::OtherLevel(_) => false,
+        SqlPart::RepeatableRead => false,
+        SqlPart::Setting => true,
+        SqlPart::NotNull => false,
     }
 }
 
-fn declares_idle(kind: IdleSql, table: &CreateTable) -> bool
-    ensures { result ≡ declares_idle kind (chain_of table.now.parts) }
+fn table_has(kind: SqlPart, table: &CreateTable) -> bool
+    ensures { result ≡ table_has kind (chain_of table.now.parts) }
 {
     match kind {
-        IdleSql::Level => false,
-        IdleSql::OtherLevel(_) => false,
-        IdleSql::RepeatableRead => false,
-        IdleSql::Setting => false,
-        IdleSql::NotNull => has_not_null(table),
+        SqlPart::Level => false,
+        SqlPart::OtherLevel(_) => false,
+        SqlPart::RepeatableRead => false,
+        SqlPart::Setting => false,
+        SqlPart::NotNull => has_not_null(table),
     }
 }
 

@@ -1,7 +1,7 @@
 use Rattle.std.proofs.Common.{ap, sym, ◌∙◌}
 use Rattle.std.specs.List.{list_any}
 use Rattle.spec_texts.specs.Statements.{has_not_null}
-use Rattle.spec_texts.proofs.IdleLemmas.{any-true, any-false}
+use Rattle.spec_texts.proofs.PartLemmas.{any-true, any-false}
 use Rattle.spec_texts.proofs.statements.has_not_null.Goals as goal
 
 pub returns-then-is_not_null_part : goal.returns-then-is_not_null_part

@@ -1,7 +1,7 @@
 use Rattle.std.proofs.Common.{map}
 use Rattle.spec_levels.specs.Asking.{seen_line}
 use Rattle.spec_levels.proofs.LineLemmas.{lines-more}
-use Rattle.spec_levels.proofs.asking.level_lines.Goals as goal
+use Rattle.spec_levels.proofs.asking.asking_lines.Goals as goal
 
 pub loop-comment-preserved : goal.loop-comment-preserved
 loop-comment-preserved c =
