@@ -1,31 +1,27 @@
 -- Along a line nothing that is done where its session stands so with its block is a select that asked for no lock, where the statements ask for their locks
 -- there.
 use Rattle.std.proofs.Common.{◌≡◌, ◌≢◌, refl, sym, ap, ◌∙◌, subst, ℕ, zero, suc, ◌<◌, ◌≤◌, ◌+◌, Bool, true, false, not, ◌||◌, ◌==◌, List, [], ◌∷◌, ◌++◌, length, set, get_or, All}
-use Rattle.std.proofs.Common.{Option, Some, None, ⊎_elim, arith, eqb-true}
+use Rattle.std.proofs.Common.{Option, Some, None, arith, eqb-true}
 use Rattle.std.proofs.lemmas.List.Elements.{All-head, All-tail}
 use Rattle.std.proofs.lemmas.List.Folds.{list_any-append}
 use Rattle.lock_queues.specs.declared.wait.Wait.{Wait}
 use Rattle.lock_queues.specs.Locks.{Spot, next_grant, waits_now}
-use Rattle.lock_queues.specs.Reasons.{Among}
 use Rattle.bound_statements.specs.Levels.{is_unlocked, AsksAlways}
 use Rattle.bound_statements.proofs.LevelLemmas.{always-locked, serializable-locked}
 use Rattle.bound_statements.specs.declared.statement.Bound.{Bound}
-use Rattle.bound_statements.specs.declared.statement.Level.TheVariants.{Serializable}
 use Rattle.bound_specs.specs.Levels.{AskAlways}
 use Rattle.bound_specs.specs.Spec.{Spec, Step, no_step, IsBound}
 use Rattle.events.specs.declared.event.Event.TheVariants.{Sent, NotSent, Resumed}
 use Rattle.machine_model.specs.declared.status.Status.{Status}
-use Rattle.machine_model.specs.declared.status.Status.TheVariants.{Outside, InBlock, Broken}
 use Rattle.machine_model.specs.Go.{Run, go, taking}
 use Rattle.machine_model.specs.Session.{Task, Session, in_status, tasks_of, note}
 use Rattle.machine_model.specs.Start.{Start, Started, SetupFailed, SessionSetupFailed, SessionSetupWaits, start, set_up, started_then, main_setups, session_setups}
-use Rattle.machine_model.specs.Start.{after_setup, forgotten, has_failed, is_outside}
+use Rattle.machine_model.specs.Start.{after_setup, forgotten, has_failed, is_outside, IsAlone, IsIdle}
 use Rattle.machine_model.specs.World.{World, fresh, session_at, look_of, scene_of, goes, granted, settle, settle_for, left_to_do, send, send_all, noted}
-use Rattle.machine_model.proofs.Basics.{cases-eq}
 use Rattle.machine_model.proofs.Levels.{always-in_status}
 use Rattle.machine_model.proofs.Settles.{Grant, next-grant}
-use Rattle.machine_model.proofs.Starts.{OnStarted, IsAlone, IsIdle, first_world, first-steady, get_or-replicate, alone-goes, alone-forgets, idle-goes, idle-now}
-use Rattle.serial_history.specs.Serial.{Did, Transaction, go_tally, Tally, History, tally_of, goes_told, granted_told, settle_told, send_told, send_all_told, no_history}
+use Rattle.machine_model.proofs.Starts.{OnStarted, first_world, first-steady, get_or-replicate, length_replicate, alone-goes, alone-forgets, idle-goes, idle-now}
+use Rattle.serial_history.specs.Serial.{Did, go_tally, Tally, History, tally_of, goes_told, granted_told, settle_told, send_told, send_all_told, no_history}
 use Rattle.serial_history.specs.Serial.{session_setups_told, first_rows, start_told, Told, AllLocked, CommitsLocked, Anywhere, AtSerializable, IsWhole, KeepsSerializable}
 use Rattle.serial_history.proofs.LockedRuns.{Locks, RestLocked, tasks-locked, Ran, go-ran, any-left, any-right}
 use Rattle.serial_history.proofs.StartsTold.{set-up-is, SetUp, bound-whole}

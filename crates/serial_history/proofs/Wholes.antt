@@ -1,5 +1,5 @@
 -- What is whole is told whole: where no select asked for no lock nothing is left out.
-use Rattle.std.proofs.Common.{◌≡◌, refl, sym, ap, ◌∙◌, subst, ℕ, List, [], ◌∷◌, cond, map, get_or, ⊎_elim}
+use Rattle.std.proofs.Common.{◌≡◌, refl, sym, ap, ◌∙◌, subst, List, [], ◌∷◌, cond, map, get_or, ⊎_elim}
 use Rattle.lock_queues.specs.Reasons.{Among}
 use Rattle.lock_modes.specs.Rows.{Rows'}
 use Rattle.machine_model.specs.World.{World, session_at}
