@@ -96,7 +96,7 @@ impl SharedStage {
         let events = events_behind(alloc, before.log(session), self.log(session))?;
         let trace = Trace::of(Items::new(alloc));
         let manner = Manner::IsNotSent;
-        self.moment(
+        let moment = self.moment(
             alloc,
             count,
             session,
@@ -106,7 +106,8 @@ impl SharedStage {
             still,
             stale,
             trace,
-        )
+        )?;
+        Ok(moment)
     }
 
     /// The moment of a session that went on in a step, which came to this stage from that one.

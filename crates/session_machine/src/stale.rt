@@ -2,10 +2,10 @@
 
 ghost use Rattle.std.specs.Prelude.{◌≡◌, ◌++◌, ◌<◌, ◌≤◌, true, IfOk, OnOk, get_or, length, slice_get};
 ghost use Rattle.bound_specs.specs.Spec.{no_step};
-ghost use Rattle.line_moments.specs.Stale as stale;
+ghost use Rattle.line_moments.specs.Stale as reads;
 ghost use Rattle.row_tables.specs.Layers.{sight};
 ghost use Rattle.session_machine.specs.SharedStage.{staged_of};
-ghost use Rattle.session_machine.specs.Telling as told;
+ghost use Rattle.session_machine.specs.Telling as telling;
 ghost use Rattle.statement_evaluation.specs.Effect.{effect};
 ghost use Rattle.std.specs.Option.{option_copied};
 ghost use Rattle.session_steps.specs.Stage.{member_at};
@@ -23,7 +23,7 @@ use statement_execution::run_statement;
 use std::alloc::{AllocError, Global};
 
 fn is_select(statement: &Bound) -> bool
-    ensures { result ≡ stale.is_select statement.now }
+    ensures { result ≡ reads.is_select statement.now }
 {
     match statement {
         Bound::Select(_, _, _, _, _, _) => true,
@@ -45,8 +45,8 @@ fn select_again(
     session: u8,
     statement: &Bound,
 ) -> Result<Transcript, AllocError>
-    requires { stale.is_select statement.now ≡ true }
-    ensures { IfOk result (λ told. told ≡ stale.events_of (effect statement.now (sight session store.now))) }
+    requires { reads.is_select statement.now ≡ true }
+    ensures { IfOk result (λ told. told ≡ reads.events_of (effect statement.now (sight session store.now))) }
 {
     let mut own = store.fork()?;
     let mut log = Log::new(alloc);
@@ -61,7 +61,7 @@ fn told_again(
     session: u8,
     statement: &Bound,
 ) -> Result<Transcript, AllocError>
-    ensures { IfOk result (λ told. told ≡ stale.told_of statement.now (sight session store.now)) }
+    ensures { IfOk result (λ told. told ≡ reads.told_of statement.now (sight session store.now)) }
 {
     if !is_select(statement) {
         return Ok(Transcript::new(alloc));
@@ -91,7 +91,7 @@ impl SharedStage {
         stale: &mut Items<Stale>,
     ) -> Result<(), AllocError>
         ensures { OnOk result (stale.new
-            ≡ stale.old ++ stale.stale_read spec.now.run.steps session (sight session before.now.store) (sight session self.now.store) read.now) }
+            ≡ stale.old ++ reads.stale_read spec.now.run.steps session (sight session before.now.store) (sight session self.now.store) read.now) }
     {
         let Some(statement) = statement_at(spec, read.step, read.place) else {
             return Ok(());
@@ -111,11 +111,11 @@ impl SharedStage {
         stale: &mut Items<Stale>,
     ) -> Result<(), AllocError>
         requires { session < length before.now.members.items }
-        ensures { OnOk result (stale.new ≡ stale.old ++ told.stale_since spec.now.run.steps session (staged_of before.now) (staged_of self.now)) }
+        ensures { OnOk result (stale.new ≡ stale.old ++ telling.stale_since spec.now.run.steps session (staged_of before.now) (staged_of self.now)) }
     {
         let told = before.members[session as usize].log().to_transcript()?;
-        let reads = open_reads(alloc, before.status(session), told.events())?;
-        for read in reads.as_slice() {
+        let open = open_reads(alloc, before.status(session), told.events())?;
+        for read in open.as_slice() {
             self.note_read(alloc, spec, before, session, read, stale)?;
         }
         Ok(())
@@ -131,7 +131,7 @@ impl SharedStage {
         count: u8,
     ) -> Result<Items<Stale>, AllocError>
         requires { count ≤ length before.now.members.items }
-        ensures { IfOk result (λ stale. stale ≡ told.stale_told spec.now.run.steps count session (staged_of before.now) (staged_of self.now)) }
+        ensures { IfOk result (λ stale. stale ≡ telling.stale_told spec.now.run.steps count session (staged_of before.now) (staged_of self.now)) }
     {
         let mut stale = Items::new(alloc);
         for other in 0..count {
