@@ -23,6 +23,7 @@ from classes import Asking
 from compare import ended
 from compare_pages import CONTRAST, CONTROLS, LEAST_CONTRAST, MAKE, SPECS, TOP, Reading, Wanted, plural
 from generate import fresh_seed
+from levels import level_in
 from refusal import Refusal
 from shown import Order, show_json
 from spec_file import read_spec
@@ -92,7 +93,7 @@ def answers_of(text):
     if faults:
         return {"check": {"faults": faults, "text": ""}}
     spec = bind(read_spec(text))
-    right["check"]["text"] = f"sessions {len(spec.session_names)}\n{idle_lines(text, read_spec(text))}"
+    right["check"]["text"] = f"sessions {len(spec.session_names)}\n{idle_lines(text, read_spec(text), level_in(text))}"
     wanted = Wanted(text, NAME, [])
     shows = {one["first_rank"]: show_json(Order(text, NAME, one["first_rank"])) for one in wanted.classes}
     return right | {"classes": json.dumps(wanted.value) + "\n", "shows": shows}
