@@ -60,12 +60,16 @@ def told_of(path, spec, order):
     steps = [*order.steps, *(step for step in range(len(spec.steps)) if step not in order.steps)]
     words = ["show", path, *(spec.step_names[step] for step in steps), "--level", READ_COMMITTED, "--json"]
     shown = json.loads(subprocess.run([PROGRAM, *words], capture_output=True, check=True).stdout)
-    moments = []
+    moments, told = [], {}
     for moment in shown["moments"]:
+        session = moment["session"]
         if moment["kind"] == "sent":
             moments.append({})
+            told[session] = []
+        # What a step told before it waited is told to its client with the rest.
+        told[session] += moment["told"]
         if moment["kind"] != "notsent":
-            moments[-1][moment["session"]] = WAITS if moment["told"][-1] == "waiting" else results_of(moment["told"])
+            moments[-1][session] = WAITS if told[session][-1] == "waiting" else results_of(told[session])
     return Order(order.steps, tuple(moments), {one["table"]: tuple(sorted(one["rows"])) for one in shown["left"]}, order.ends)
 
 
