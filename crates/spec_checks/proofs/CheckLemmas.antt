@@ -1,5 +1,5 @@
 -- What is written behind how much a spec has.
-use Rattle.std.proofs.Common.{◌≡◌, refl, ℕ, ◌++◌, List, Option, Err}
+use Rattle.std.proofs.Common.{refl, ℕ, ◌++◌, List, Option, Err}
 use Rattle.transcripts.proofs.Writing.{wrote-append, stopped-append, stopped-after}
 use Rattle.transcripts.specs.Counted.{Wrote, Stopped}
 use Rattle.transcripts.specs.declared.counted.Counted.{Counted}
