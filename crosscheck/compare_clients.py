@@ -1,11 +1,11 @@
-"""Compares the program at READ COMMITTED with PostgreSQL at that level, on all orders of specs that clients can send, each session a connection of its own.
+"""Compares the program at READ COMMITTED with PostgreSQL at that level, on all orders of specs that clients can send. Each session is a connection.
 
 usage: python3 crosscheck/compare_clients.py SPEC..
        python3 crosscheck/compare_clients.py --made FIRST_SEED SEEDS
 
-As `compare_postgres.py`, but what is to be is what `isofarm show --level read-committed --json` prints of each order, counts are those that the server tells, and
-the steps are sent from here: neither the second machine nor isolationtester answers. A session waits where the server says twice who blocks it. The second
-machine says which orders there are. The program is the built one, or the one whose path stands in the variable ISOFARM.
+As `compare_postgres.py`, but by other means at both ends: what is to be is what `isofarm show --level read-committed --json` prints of each order, and the steps
+are sent from here, without isolationtester, so that counts are those that the server tells. A session waits where the server says twice who blocks it. The
+second machine says which orders there are. The program is the built one, or the one whose path stands in the variable ISOFARM.
 """
 
 import json
@@ -33,7 +33,7 @@ from sql import Create, read_sql
 
 FAULT_OF = {LINES[fault]: fault for fault in FAULTS}
 TEXT_TYPE, COUNTED = 25, {"INSERT": "inserted", "UPDATE": "updated", "DELETE": "deleted"}
-# How long an answer is waited for before it is asked who blocks, and a session that is blocked before it is asked again; how long an order may take.
+# How long an answer is waited for before it is asked who blocks; how long once more where somebody does; and how long where nobody may.
 SOON, LATER, MOST_SECONDS = 0.002, 0.02, 60
 
 
@@ -103,8 +103,8 @@ class Client:
         return self.told[-1][1] if self.told else ()
 
     def wait(self):
-        while not self.is_ended(MOST_SECONDS):
-            pass
+        if not self.is_ended(MOST_SECONDS):
+            raise RuntimeError("the server does not answer")
 
     def is_ended(self, seconds):
         """Whether all that was sent is answered, so many seconds from now at most."""
@@ -151,7 +151,8 @@ class Client:
 
 def sql_of(block):
     """The statements of a block but for CREATE TABLE, each on one line."""
-    texts = [one_line(piece).removesuffix(";").strip() for _begin, piece in pieces(block.text if block else b"") if not any(isinstance(one, Create) for one in read_sql(piece))]
+    kept = (piece for _begin, piece in pieces(block.text if block else b"") if not any(isinstance(one, Create) for one in read_sql(piece)))
+    texts = [one_line(piece).removesuffix(";").strip() for piece in kept]
     return " ".join(f"{text};" for text in texts if text)
 
 
@@ -171,8 +172,8 @@ class Sessions:
     def is_blocked(self, session):
         return self.control.ask(f"SELECT cardinality(pg_blocking_pids({self.clients[session].pid}))::bigint")[0] != "0"
 
-    def is_quiet(self, session):
-        """Whether a session has ended its step: or else that it is blocked, for so long that no deadlock is being looked for."""
+    def has_ended(self, session):
+        """Whether a session has ended its step. Else it is blocked, for so long that no deadlock is looked for any more."""
         client = self.clients[session]
         while not client.is_ended(SOON):
             if self.is_blocked(session) and not client.is_ended(LATER) and self.is_blocked(session):
@@ -186,9 +187,9 @@ class Sessions:
         found = {sender: WAITS}
         self.waiting.add(sender)
         # Who ends lets others go on, who may then end too.
-        while ended := [session for session in sorted(self.waiting) if self.is_quiet(session)]:
-            self.waiting -= {*ended}
-            found |= {session: self.clients[session].answer() for session in ended}
+        while done := [session for session in sorted(self.waiting) if self.has_ended(session)]:
+            self.waiting -= {*done}
+            found |= {session: self.clients[session].answer() for session in done}
         return found
 
     def left(self):
