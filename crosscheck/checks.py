@@ -1,9 +1,10 @@
 """What `isofarm check` tells of a file, up to the sentences that say what is wrong."""
 
 import sql
-from binding import Kind, bind, bound
+from binding import Kind, bound
+from levels import NoLevel, bind_at
 from refusal import Refusal
-from spec_file import Block, read_spec
+from spec_file import Block, blocks, read_spec
 
 # So much of a file is read that its length tells whether it is too long.
 READ = 65_537
@@ -18,27 +19,22 @@ def checked(text, path):
     except Refusal as refusal:
         return 3, b"", refusal.line(path) + place_lines(text, refusal.place, path)
     try:
-        spec = bind(read)
+        spec = bind_at(text, read, None)
+    except NoLevel as refusal:
+        return 3, b"", refusal.line(path)
     except Refusal as refusal:
         told = [b"also " + place_lines(text, other.place, path) for other in further(read, refusal)]
         return 3, b"", refusal.line(path) + place_lines(text, refusal.place, path) + b"".join(told)
     counts = {"sessions": len(spec.session_names), "steps": len(spec.steps), "ranks": spec.ranks()}
     counted = "".join(f"{name} {count}\n" for name, count in counts.items())
-    return 0, (counted + idle_lines(text, read)).encode(), b""
+    return 0, (counted + idle_lines(text, read, spec.level)).encode(), b""
 
 
-def blocks(read):
-    """The blocks that are sent, and whether tables are declared there."""
-    yield from ((block, True) for block in read.setups)
-    for session in read.sessions:
-        yield from ((block, False) for block in [session.setup, *(block for _name, block in session.steps)] if block)
-
-
-def idle_lines(text, read):
-    """What is read and has no effect, by the lines that it begins on."""
+def idle_lines(text, read, level):
+    """What is read and has no effect where this level is asked for, or none, by the lines that it begins on."""
     statements = [(statement, block.start + statement.at) for block, _declares in blocks(read) for statement in sql.read_sql(block.text)]
     places = {
-        "isolation level": [at for one, at in statements if isinstance(one, sql.Begin) and one.has_level],
+        "isolation level": [at for one, at in statements if isinstance(one, sql.Begin) and one.has_level and not level],
         "SET": [at for one, at in statements if isinstance(one, sql.Set)],
         "NOT NULL": [at for one, at in statements if isinstance(one, sql.Create) and any(column.is_not_null for column in one.columns)],
         "teardown": read.teardowns,

@@ -163,10 +163,10 @@ def kind_of(out):
 
 
 def fault_of(error):
-    """What a fault line tells, without the place and the names of steps. Of a word that is quoted in place of a path it says so."""
+    """What a fault line tells, without the place or line and the names of steps. Of a word that is quoted in place of a path it says so."""
     line = re.sub(r'"(?:[^"\\]|\\.)*"', "NAME", error.decode(errors="replace").split("\n")[0])
     front, fault = line.rsplit(": ", 1)
-    return "NAME: " * (front == "isofarm: NAME") + re.split(r" at \d|(?<=rank) \d", fault)[0].strip()
+    return "NAME: " * (front == "isofarm: NAME") + re.split(r" at \d|(?<=rank) \d| \(line \d", fault)[0].strip()
 
 
 def difference(want, got):

@@ -26,6 +26,9 @@ from levels import WHY
 TOP = Path(__file__).resolve().parent.parent
 NAMES = ["a.spec", "é \"<b>&.spec", "two\nlines.spec"]
 DAMAGED, ORDERS, MOST_ORDERS, LINES_TOLD = 1, 2, 2_000, 5
+# A module that stops in its first call, which is for room, and what a core tells from then on.
+STOPS = bytes.fromhex("0061736d0100000001060160017e017f03020100070d0109706167655f726f6f6d00000a05010300000b")
+STOPPED = {"answer": {"fault": "trap", "kind": 0, "place": 0}, "spent": True}
 LEAST_MEMORY, MEMORY_STEP, MOST_MEMORY = 4 << 20, 1 << 14, 64 << 20
 
 
@@ -55,10 +58,13 @@ class Core:
         words = ["node", str(TOP / "crosscheck/core_asked.js"), str(wasm)]
         self.node = subprocess.Popen(words, stdin=subprocess.PIPE, stdout=subprocess.PIPE)
 
-    def tell(self, value):
+    def told(self, value):
         self.node.stdin.write(json.dumps(value).encode() + b"\n")
         self.node.stdin.flush()
-        told = json.loads(self.node.stdout.readline())
+        return json.loads(self.node.stdout.readline())
+
+    def tell(self, value):
+        told = self.told(value)
         if told["spent"]:
             raise RuntimeError(f"the module is spent by {json.dumps(value)[:2000]}")
         return told["answer"]
@@ -160,6 +166,16 @@ class Comparison:
         self.core.renew()
 
 
+def stopped(comparison, folder):
+    """A core that was stopped says so, and so it does when it is asked again."""
+    module = Path(folder, "stops.wasm")
+    module.write_bytes(STOPS)
+    core = Core(module)
+    for call, more in (("ranks", []), ("check", [NAMES[0]])):
+        comparison.same(("", "a module that stops"), call, core.told({"call": call, "spec": "", "more": more}), STOPPED)
+    core.node.stdin.close()
+
+
 def module_of(word):
     if word not in {"make", "compiled"}:
         return Path(word).resolve()
@@ -174,6 +190,7 @@ def main(wasm, first, seeds, kinds):
         for path in sorted((TOP / "examples").glob("*.spec")):
             comparison.spec(path.name, path.read_bytes(), Random(path.name))
         comparison.memory((TOP / "examples/deadlock.spec").read_bytes())
+        stopped(comparison, folder)
         for kind in kinds:
             for name, seed, made in specs_made(kind, first, seeds):
                 random, text = Random(seed), with_few_orders(made, seed, MOST_ORDERS)

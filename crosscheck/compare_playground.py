@@ -23,6 +23,7 @@ from classes import Asking
 from compare import ended
 from compare_pages import CONTRAST, CONTROLS, LEAST_CONTRAST, MAKE, SPECS, TOP, Reading, Wanted, plural
 from generate import fresh_seed
+from levels import NoLevel, level_in
 from refusal import Refusal
 from shown import Order, show_json
 from spec_file import read_spec
@@ -36,6 +37,7 @@ HEADS = {"name": "isofarm playground", "title": "isofarm playground"}
 SENTENCE = "Here <b>something</b> is wrong."
 LACKS, BREAKS, UNSTARTED, ENDLESS = b"# no memory for this\n", b"# this breaks the core\n", b"# this does not start\n", b"# this takes for ever\n"
 TOO_MANY = b"# this has too many states\n"
+LEVELS = ("read-committed", "serializable")
 MISTAKEN = "setup { CREATE TABLE \u00e9 (id int PRIMARY KEY); }\nsession a\nstep a1 { INSERT INTO account VALUES (1 50); }\nstep a2 { COMMIT; SELECT 1 2; }\n".encode()
 # A core that knows some texts. What it answers of them stands in its table; it is spent by one of them.
 STUB = r"""
@@ -55,6 +57,10 @@ async function makeCore(bytes) {
   };
 }
 """
+
+
+def at_level(text, level):
+    return f"# level: {level}\n".encode() + text
 
 
 # ---- the core that knows some texts
@@ -91,8 +97,12 @@ def answers_of(text):
     faults = [dict(zip(("line", "column"), line_and_column(text, place)), sentence=SENTENCE, place=place) for place in faults_of(text)]
     if faults:
         return {"check": {"faults": faults, "text": ""}}
+    try:
+        level = level_in(text)
+    except NoLevel as refusal:
+        return {"check": {"fault": "level", "kind": refusal.kind, "place": refusal.place}}
     spec = bind(read_spec(text))
-    right["check"]["text"] = f"sessions {len(spec.session_names)}\n{idle_lines(text, read_spec(text))}"
+    right["check"]["text"] = f"sessions {len(spec.session_names)}\n{idle_lines(text, read_spec(text), level)}"
     wanted = Wanted(text, NAME, [])
     shows = {one["first_rank"]: show_json(Order(text, NAME, one["first_rank"])) for one in wanted.classes}
     return right | {"classes": json.dumps(wanted.value) + "\n", "shows": shows}
@@ -121,6 +131,14 @@ class Playing(Reading):
         """Puts a text in the place of what is there, as typing does. What is told of the one before is taken away, so that it is not taken for the answer."""
         wipe = "document.getElementById('status').replaceChildren(); const it = document.getElementById('spec');"
         self.browser.run(f"(() => {{ {wipe} it.value = {json.dumps(text.decode())}; it.dispatchEvent(new Event('input')); }})()")
+
+    def value(self, field):
+        return self.browser.run(f"document.getElementById('{field}').value")
+
+    def choose(self, field, value):
+        """Chooses a value as one does. What is told of the text is taken away."""
+        change = f"it.value = {json.dumps(value)}; it.dispatchEvent(new Event('change'));"
+        self.browser.run(f"(() => {{ document.getElementById('status').replaceChildren(); const it = document.getElementById('{field}'); {change} }})()")
 
     def status(self, words):
         """Waits until the page tells this of the text."""
@@ -170,6 +188,23 @@ class Playing(Reading):
             self.status(words)
             self.expect("an old answer is faint", True, self.is_old())
 
+    def levels(self, text):
+        """A level that is chosen is asked for by a line of the text, in the place of another one, and the choice is what the text asks for."""
+        for level, wanted in (("", text), *((level, at_level(text, level)) for level in LEVELS), ("", text)):
+            self.choose("level", level)
+            self.shows(f"level {level}", wanted)
+            self.expect("the text at a level", wanted.decode(), self.value("spec"))
+            self.expect("the level of a text", level, self.value("level"))
+        self.put(at_level(text, LEVELS[0]))
+        self.shows("a level that is typed", at_level(text, LEVELS[0]))
+        self.expect("the level that is typed", LEVELS[0], self.value("level"))
+        self.put(at_level(text, "snapshot"))
+        self.status("There is no such level (line 1).")
+        self.expect("a level that is none", -1, self.browser.run("document.getElementById('level').selectedIndex"))
+        self.choose("level", "")
+        self.shows("a level that was none", text)
+        self.expect("the text without a level", text.decode(), self.value("spec"))
+
     def stopped(self):
         """A text that takes long is told so, and a new one stops it."""
         self.put(ENDLESS)
@@ -186,7 +221,7 @@ class Playing(Reading):
         self.browser.open(path, fragment)
         self.status(self.told(text))
         self.expect("the class of an address", "2", self.browser.run("document.getElementById('what').textContent").split()[1])
-        self.expect("the text of an address", text.decode(), self.browser.run("document.getElementById('spec').value"))
+        self.expect("the text of an address", text.decode(), self.value("spec"))
 
     def typed(self, before, letters):
         """Letters that are typed one after another are answered once, behind the last."""
@@ -219,9 +254,10 @@ def play(browser, path, seed, texts):
     playing.shows("hostile", hostile)
     playing.refused()
     playing.stopped()
-    place = browser.run("[...document.getElementById('examples').options].findIndex(one => one.textContent === 'write_skew.spec')")
-    browser.run(f"(() => {{ const it = document.getElementById('examples'); it.selectedIndex = {place}; it.dispatchEvent(new Event('change')); }})()")
+    place = browser.run("[...document.getElementById('examples').options].find(one => one.textContent === 'write_skew.spec').value")
+    playing.choose("examples", place)
     playing.shows("write_skew", skew)
+    playing.levels(skew)
     playing.reaches()
     playing.address(path, skew)
     playing.typed(deadlock, "zz")
@@ -257,6 +293,7 @@ def main(seed):
         return 0
     texts = {path.stem: path.read_bytes() for path in [*sorted(EXAMPLES.glob("*.spec")), *sorted(SPECS.glob("*.spec"))]}
     known = [texts[name] for name in ("deadlock", "hostile", "write_skew")]
+    known += [at_level(texts["write_skew"], level) for level in (*LEVELS, "snapshot")]
     known += [MISTAKEN, LACKS, BREAKS, UNSTARTED, TOO_MANY, ENDLESS, *(texts["deadlock"] + letters for letters in (b"z", b"zz"))]
     with TemporaryDirectory() as name, ThreadPoolExecutor(len(browsers)) as pool:
         folder = Path(name)

@@ -10,10 +10,9 @@ from dataclasses import dataclass
 
 import sql
 from binding import bind
-from checks import blocks
 from machine import LEVELS, NAMED_LEVELS, SERIALIZABLE
 from refusal import Refusal
-from spec_file import token_at
+from spec_file import blocks, token_at
 
 LINE = re.compile(rb"^[ \t]*(#)[ \t\r]*level:([^\n]*)", re.MULTILINE)
 BLANKS = b" \t\r"

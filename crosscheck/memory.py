@@ -48,7 +48,7 @@ OF_BOOKS += ["classes lost_update.spec --html", "classes deadlock.spec --html --
 OF_BOOKS += ["classes --book all.book", "classes --book high.book low.book --ranks --outcomes", "classes --book low.book --json --ranks"]
 OF_BOOKS += ["classes --book all.book clash.book", "classes --book all.book wrong.spec"]
 OF_BOOKS += ["show lost_update.spec 1 --level read-committed", "classes lost_update.spec --level read-committed", "classes wrong.spec --level serializable"]
-OF_BOOKS += ["classes levels.spec", "show levels.spec 0 --level serializable"]
+OF_BOOKS += ["check levels.spec", "classes levels.spec", "show levels.spec 0 --level serializable"]
 OF_BOOKS += ["test", "test all.book --workers 0", "test - -"]
 
 

@@ -28,7 +28,7 @@ FAULTS = [
     (3, f"(?P<by>sql) error [1-7] at (?P<place>{N})", NAMED, OF_SPECS),
     (3, f"(?P<by>bind) error [2-8] at (?P<place>{N})", NAMED, OF_SPECS),
     (3, f"start error [1-3] at {N}", NAMED, {"one", "show", "classes", "run"}),
-    (3, f"(?:no such level|a second level|REPEATABLE READ is not modelled) \\(line {N}\\)", NAMED, {"show", "classes"}),
+    (3, f"(?:no such level|a second level|REPEATABLE READ is not modelled) \\(line {N}\\)", NAMED, {"check", "show", "classes"}),
     (3, "rank out of range", NAMED, {"one", "order", "show"}),
     (3, f"no step {NAME}", NAMED, {"rank", "show"}),
     (3, f"step {NAME} (?:twice|left out|before {NAME})", NAMED, {"rank", "show"}),

@@ -52,6 +52,13 @@ class SpecText:
     markers: list  # where the parenthesis of each item that has some stands
 
 
+def blocks(file):
+    """The blocks of a spec file that are sent, and whether tables are declared there."""
+    yield from ((block, True) for block in file.setups)
+    for session in file.sessions:
+        yield from ((block, False) for block in [session.setup, *(block for _name, block in session.steps)] if block)
+
+
 def refuse(kind, place):
     raise Refusal("spec", int(kind), place)
 

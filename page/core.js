@@ -14,7 +14,7 @@
 'use strict';
 
 const CORE_FAULTS = [null, 'spec', 'sql', 'bind', 'range', 'start', 'memory', 'room', 'name', 'states', 'level', 'trap'];
-const CORE_MEMORY = 6, CORE_ROOM = 7, CORE_TRAP = 10;
+const CORE_MEMORY = 6, CORE_ROOM = 7, CORE_TRAP = 11;
 // So many bytes of a spec are read at most, as the program does it: one more than a spec may have.
 const CORE_SPEC = 65537;
 // Room for a text at first. One that has more is asked for again.

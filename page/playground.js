@@ -9,6 +9,8 @@
     level: ['', 'There is no such level', 'A second line asks for a level', 'REPEATABLE READ is not modelled where a level is asked for'],
     start: ['', 'A main setup fails', 'The setup of a session fails', 'The setup of a session has to wait'],
   };
+  // Lines that ask for a level, among what may seem to have one: blocks, names and other comments.
+  const LEVEL_LINES = /\{[^}]*\}?|"[^"]*"?|((?<![^\n])[ \t]*#[ \t\r]*level:[^\n]*\n?)|#[^\n]*/g;
   const examples = JSON.parse($('given').textContent), encoder = new TextEncoder(), decoder = new TextDecoder();
 
   /* the worker: an old question is ended with the worker that has it */
@@ -54,6 +56,7 @@
     } else if (answer.classes) tellClasses(parsed(answer.classes), answer.notes);
     else {
       stale(true);
+      if (answer.refused && answer.refused.fault === 'level') $('level').value = null;
       if (answer.faults) status(true, ...answer.faults.map(faultShown));
       else status(true, refusedText(answer.refused));
     }
@@ -70,6 +73,7 @@
     stale(false);
     const counts = [plural(given.sessions.length, 'session'), plural(given.steps.length, 'step'), plural(given.orders, 'order')];
     status(false, h('p', null, `${counts.join(', ')}: ${given.orders === 1 ? 'it was' : 'all were'} counted here, in the page.`), ...notes.map(note => h('p', { class: 'muted' }, note)));
+    $('level').value = given.levels ? given.levels.default : '';
     const linked = data ? picked : Number((location.hash.match(/class=(\d+)/) || [])[1] || 1) - 1;
     show(given, askOrder, linked < given.classes.length ? linked : 0);
   }
@@ -140,6 +144,18 @@
     ask();
   }
 
+  // The text asks for this level: by the line that asks for one, or at its beginning. For none no line does.
+  function askLevel(level) {
+    let line = level && `# level: ${level}\n`;
+    const rest = $('spec').value.replace(LEVEL_LINES, (part, asks) => {
+      const put = asks ? line : part;
+      if (asks) line = '';
+      return put;
+    });
+    picked = 0;
+    load(line + rest);
+  }
+
   let pause = 0;
   $('spec').addEventListener('input', () => { clearTimeout(pause); pause = setTimeout(changed, PAUSE); });
   $('examples').append(...examples.map((one, at) => h('option', { value: at }, one.name)));
@@ -148,6 +164,7 @@
     picked = 0;
     load(examples[event.target.value].text);
   });
+  $('level').addEventListener('change', event => askLevel(event.target.value));
   addEventListener('hashchange', async () => {
     const text = location.hash.startsWith(fragment) ? null : await kept();
     if (text !== null) load(text);

@@ -7,11 +7,12 @@ use Rattle.machine_model.specs.Start.{start}
 use Rattle.session_machine.specs.Running.{IsNotRunBy}
 use Rattle.spec_binding.specs.SpecFiles.{IsNoSpec}
 use Rattle.spec_levels.specs.Levelled.{IsLevelledSpec, IsWrongLevel}
+use Rattle.spec_levels.specs.declared.asking.LevelFault.{LevelFault}
 use Rattle.spec_binding.specs.declared.spec.SpecFault.{SpecFault}
 use Rattle.spec_checks.specs.Checking.{IsCheck}
 use Rattle.spec_commands.specs.Showing.{IsShowingOf}
-use Rattle.spec_commands.specs.declared.counting.CountFault.{CountFault}
-use Rattle.spec_commands.specs.declared.counting.CountFault.TheVariants as count_fault
+use Rattle.spec_checks.specs.declared.checking.CheckFault.{CheckFault}
+use Rattle.spec_checks.specs.declared.checking.CheckFault.TheVariants as check_fault
 use Rattle.spec_commands.specs.declared.showing.ShowFault.{ShowFault}
 use Rattle.spec_commands.specs.declared.showing.ShowFault.TheVariants as show_fault
 use Rattle.spec_commands.specs.declared.showing.ShowForm.TheVariants.{Json}
@@ -22,7 +23,7 @@ use Rattle.wanted_classes.specs.declared.wanted.WantedForm.TheVariants as form
 use Rattle.class_commands.specs.Classing.{MayHaveManyStates, IsTellingOf}
 use Rattle.class_commands.specs.declared.classing.ClassesFault.{ClassesFault}
 use Rattle.class_commands.specs.declared.classing.ClassesFault.TheVariants as classes_fault
-use Rattle.page_core.specs.Ends.{classes_end, end_of, show_end, spec_end}
+use Rattle.page_core.specs.Ends.{classes_end, end_of, level_end, show_end, spec_end}
 use Rattle.page_core.specs.declared.ending.End.{End}
 use Rattle.page_core.specs.declared.ending.TheConstants.{ANSWERED, NO_MEMORY, NO_NAME, NO_ROOM}
 
@@ -107,10 +108,12 @@ IsClassesCall bytes name answers old new end answered =
 
 -- ---- what is wrong with a spec
 
--- why it is not told how much the spec has: the bytes are no spec file, or memory ran out
-abbrev pub IsNotChecked : List ℕ → CountFault → Type 0
-IsNotChecked bytes (count_fault.Spec fault) = IsNoSpec bytes fault
-IsNotChecked bytes (count_fault.Write fault) = Unit {0}
+-- why it is not told how much the spec has: the bytes are no spec file; what it says of levels is wrong; or memory ran out
+abbrev pub IsNotChecked : List ℕ → CheckFault → Type 0
+IsNotChecked bytes (check_fault.Spec fault) = IsNoSpec bytes fault
+IsNotChecked bytes (check_fault.Level fault) = IsWrongLevel bytes None fault
+IsNotChecked bytes check_fault.NoMemory = Unit {0}
+IsNotChecked bytes (check_fault.Write fault) = Unit {0}
 
 -- what is told of a fault is put in the buffer, and the call ends by the fault; or memory ran out
 abbrev pub IsExplainedCall : List ℕ → List ℕ → SpecFault → List ℕ → List ℕ → End → ℕ → Type 0
@@ -118,10 +121,12 @@ IsExplainedCall bytes name fault old new end answered =
     (((spec_end fault).fault ≢ NO_MEMORY) × ((told : List ℕ) × AreTold name bytes fault told × IsPut told (spec_end fault) old new end answered))
     ⊎ HasNoText (end_of NO_MEMORY) old new end answered
 
--- how much the spec has is put in the buffer, or what is told of its faults; a name that is no UTF-8 is refused first
+-- how much the spec has is put in the buffer, or what is told of its faults; of levels that are wrong there is the end alone; a name that is no UTF-8
+-- is refused first
 abbrev pub IsCheckCall : List ℕ → List ℕ → List ℕ → List ℕ → End → ℕ → Type 0
 IsCheckCall bytes name old new end answered =
     (((text : List ℕ) × IsCheck bytes text × IsPut text (end_of ANSWERED) old new end answered)
     ⊎ ((fault : SpecFault) × IsNoSpec bytes fault × IsExplainedCall bytes name fault old new end answered))
+    ⊎ (((fault : LevelFault) × IsWrongLevel bytes None fault × HasNoText (level_end fault.line fault.kind) old new end answered)
     ⊎ (HasNoText (end_of NO_MEMORY) old new end answered
-    ⊎ ((¬ (IsUtf8 name)) × HasNoText (end_of NO_NAME) old new end answered))
+    ⊎ ((¬ (IsUtf8 name)) × HasNoText (end_of NO_NAME) old new end answered)))

@@ -131,7 +131,7 @@ fn start_end(error: StartError) -> End
 }
 
 /// The end of a call over a spec that says something wrong of levels: the kind is its number, from 1, and the place its line.
-fn level_end(fault: LevelFault) -> End
+pub(crate) fn level_end(fault: LevelFault) -> End
     ensures { result ≡ level_end fault.line fault.kind }
 {
     End {

@@ -35,6 +35,8 @@ use Rattle.spec_commands.specs.declared.showing.ShowFault.TheVariants as show_fa
 use Rattle.spec_commands.specs.Ordering.{IsNamePlace}
 use Rattle.spec_commands.specs.declared.counting.CountFault.{CountFault}
 use Rattle.spec_commands.specs.declared.counting.CountFault.TheVariants as count_fault
+use Rattle.spec_checks.specs.declared.checking.CheckFault.{CheckFault}
+use Rattle.spec_checks.specs.declared.checking.CheckFault.TheVariants as check_fault
 use Rattle.book_commands.specs.declared.joining.FileFault.{FileFault}
 use Rattle.book_commands.specs.declared.joining.FileFault.TheVariants as file_fault
 use Rattle.book_commands.specs.declared.joining.JoinFault.{JoinFault}
@@ -247,6 +249,9 @@ IsExplained path text fault (Explained told) =
     × ((line explained : List ℕ) × AreTold path.now text fault explained × (string_bytes told ≡ line ++ (codes "\n" ++ explained)))
 IsExplained path text fault told = told ≡ NoMemory
 
-abbrev pub IsCheckTold : Path → List ℕ → CountFault → ProgramFault → Type 0
-IsCheckTold path text (count_fault.Spec fault) told = IsExplained path text fault told
-IsCheckTold path text (count_fault.Write fault) told = told ≡ Write
+-- and of a spec file whose levels are wrong, what other commands tell of it
+abbrev pub IsCheckTold : Path → List ℕ → CheckFault → ProgramFault → Type 0
+IsCheckTold path text (check_fault.Spec fault) told = IsExplained path text fault told
+IsCheckTold path text (check_fault.Level fault) told = told ≡ level_told path fault.line fault.kind
+IsCheckTold path text check_fault.NoMemory told = told ≡ NoMemory
+IsCheckTold path text (check_fault.Write fault) told = told ≡ Write

@@ -28,8 +28,8 @@ ghost use Rattle.program_commands.specs.Commands.{IsAnswered, IsCut, IsDone, IsC
 
 use crate::faults::{
     audit_fault, classes_fault, count_fault, explained_fault, fault_at, hold_fault, join_fault,
-    judge_fault, missing_fault, order_fault, outcomes_fault, range_fault, rank_fault, report_fault,
-    show_fault,
+    judge_fault, level_fault, missing_fault, order_fault, outcomes_fault, range_fault, rank_fault,
+    report_fault, show_fault,
 };
 use crate::files::read_spec_file;
 use crate::testing::{TestWords, test_of_files};
@@ -45,8 +45,8 @@ use command_line::{Asked, Wanted, WantedRanks, parse_words};
 use fault_texts::ProgramFault;
 use range_commands::{run_all, run_told};
 use shard_board::Workers;
-use spec_checks::check;
-use spec_commands::{CountFault, ShowForm, WantedOrder, count, one, order, rank, show};
+use spec_checks::{CheckFault, check};
+use spec_commands::{ShowForm, WantedOrder, count, one, order, rank, show};
 use std::alloc::Global;
 use std::io::{self, Write};
 use std::sync::Wait;
@@ -226,8 +226,10 @@ fn check_of_file<'a, O: Opener, W: Write>(
     };
     match check(alloc, bytes.as_slice(), out) {
         Ok(()) => Ok(Finding::Good),
-        Err(CountFault::Spec(fault)) => Err(explained_fault(alloc, path, bytes.as_slice(), fault)),
-        Err(CountFault::Write(_)) => Err(ProgramFault::Write),
+        Err(CheckFault::Spec(fault)) => Err(explained_fault(alloc, path, bytes.as_slice(), fault)),
+        Err(CheckFault::Level(fault)) => Err(level_fault(path, fault)),
+        Err(CheckFault::NoMemory) => Err(ProgramFault::NoMemory),
+        Err(CheckFault::Write(_)) => Err(ProgramFault::Write),
     }
 }
 

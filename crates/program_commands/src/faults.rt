@@ -135,7 +135,7 @@ pub(crate) fn order_fault(path: &str, fault: OrderFault) -> ProgramFault<'_>
     }
 }
 
-fn level_fault(path: &str, fault: LevelFault) -> ProgramFault<'_>
+pub(crate) fn level_fault(path: &str, fault: LevelFault) -> ProgramFault<'_>
     ensures { result ≡ level_told path.entry fault.line fault.kind }
 {
     let line = fault.line;

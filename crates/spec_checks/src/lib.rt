@@ -7,4 +7,4 @@ mod markers;
 mod teardowns;
 mod telling;
 
-pub use checking::check;
+pub use checking::{CheckFault, check};
