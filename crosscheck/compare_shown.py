@@ -39,7 +39,7 @@ NOTES = [" holds ", " is ahead, for ", ", has ", " and asks ", "  ring ", "  now
 NOTES += [f"in a {where}\n" for where in ("transaction", "failed block")] + [" waits\n", "  nothing", "\\u{"]
 # Widths of tables' names, round those with which `left in` is broken, and with which they are.
 LONG_TABLES = [*range(71, 74), *range(77, 80), 155, 156, 157]
-MEMBERS = ["want", "ring", "lacks", "has"]
+MEMBERS = ["want", "ring", "lacks", "has", "stale"]
 HOSTILE = ["<b>", "</script>", "&amp;", "\u2028", "\u202e", "\x1b[31m", "\\u003c", "\\", '"', "'", "~", "#0", "#", "\t", "\x7f", "é", "字"]
 HOSTILE += ["\U0001f600", "\u00ad", " ", "  ", "-", "\x0b", "\r"]
 
