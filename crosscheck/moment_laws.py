@@ -6,7 +6,7 @@ from itertools import combinations, pairwise, permutations
 from machine import DEADLOCK, FAULTS, GO_TOGETHER, IN_BLOCK, READ_COMMITTED, UNAVAILABLE, cover, outcome, printed, start
 from moments import AHEAD, HOLDS, NOT_SENT, RESUMED, SENT, STATUSES, Edge
 from shown import HIDDEN, WIDTH, Lanes, broken, json_text, show_value, visible, word_of
-from sql import Select
+from sql import Begin, Select
 
 NAMELESS = "session"
 
@@ -170,7 +170,9 @@ def wrong_in_stale(spec, moments, moment, before, after):
     for one in moment.stale:
         member, (owner, statements) = before.members[one.session], spec.steps[one.step]
         is_open = member.status == IN_BLOCK or wait_at(before, one.session)
-        if not {owner, one.session} == {owner} - {moment.session} or not is_open or member.level != READ_COMMITTED:
+        # A BEGIN behind a SELECT of its step may have made the transaction a block of another level.
+        is_locked = spec.level is None or (member.level != READ_COMMITTED and not any(isinstance(statement, Begin) for statement in statements))
+        if owner != one.session or owner == moment.session or not is_open or is_locked:
             yield f"no read of session {one.session} can be stale"
             continue
         ways = [[told_if_sent(world, owner, statement) for world in (before, after)] for statement in statements if isinstance(statement, Select)]
