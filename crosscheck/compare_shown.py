@@ -117,7 +117,7 @@ STALE_ENDS = ["COMMIT"] * 4 + ["COMMIT; BEGIN"] * 2 + ["ROLLBACK", "BEGIN", "BEG
 def stale_step(namer):
     """What some sessions read of the same few rows, and what they and others write."""
     reads, writes, ends = STALE_READS, STALE_WRITES, STALE_ENDS
-    parts = namer.one([[reads], [reads, reads], [reads, writes], [writes], [writes, ends], [writes, ends], [ends]])
+    parts = namer.one([[reads], [reads, reads], [reads, writes], [reads, ends], [writes], [writes, ends], [writes, ends], [ends]])
     return namer.block([namer.one(part).format(key=namer.one("1123")) for part in parts])
 
 
