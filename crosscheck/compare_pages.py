@@ -69,7 +69,7 @@ def plural(count, word, words=None):
 
 def found_text(lines):
     """What a query finds, on one line."""
-    return "no row" if lines == ["rows 0"] else ", ".join(line.removeprefix("row ") for line in lines if not line.startswith("rows "))
+    return ", ".join(line.removeprefix("row ") for line in lines if not line.startswith("rows ")) or "no row"
 
 
 def listed(texts):
@@ -168,8 +168,10 @@ class Timeline:
         lines = [*self.own_lines(moment, stand)] if mine else []
         still = next((edges for one, edges in moment["still"] if one == session), [])
         lines += [("why", f"now {self.reason(edge)}") for edge in still]
+        stale = [("why", text) for text in self.stale(moment, session)]
+        lines += stale
         return {
-            "kinds": sorted(self.kinds(moment, stand, session, bool(still))),
+            "kinds": sorted(self.kinds(moment, stand, session, bool(still or stale))),
             "lines": [[kind, visible(text)] for kind, text in lines],
             "locks": sorted(
                 [on, mode, on not in stand.before[session], on not in stand.after[session]] for on, mode in stand.during[session].items()
@@ -177,12 +179,18 @@ class Timeline:
             "arrows": sorted(self.arrows(moment, session, still)),
         }
 
-    def kinds(self, moment, stand, session, has_still):
+    def stale(self, moment, session):
+        """What a session read that the moment made stale."""
+        for one, step, was, now in moment.get("stale", []):
+            if one == session:
+                yield f"{self.step(step)} read {found_text(was)}; {self.names[moment['session']]} committed {found_text(now)}"
+
+    def kinds(self, moment, stand, session, says):
         mine, waits = moment["session"] == session, stand.waits[session]
         fails = mine and any(line.startswith("error: ") for line in moment["told"])
         if waits:
             yield "stands"
-        if waits and (mine or has_still):
+        if waits and (mine or says):
             yield "says"
         if fails:
             yield "refused"
@@ -278,6 +286,7 @@ class Timeline:
             at, waiting, it = stand.waits[session]
             reasons = self.long_reasons(stand.edges[session], it["on"], stand)
             yield f"{who} waits with {self.step(waiting)}: it {wants(it)}. {reasons}. {self.end_of_wait(at, session)}"
+        yield from (f"{text}." for text in self.stale(moment, session))
         held = listed([f"{mode} on {on}" for on, mode in stand.after[session].items()]) or "no lock"
         freed = "Its locks were let go. " if mine and None in moment["locks"] else ""
         yield f"{freed}Then {who} {BLOCKS[stand.status[session]]} and holds {held}."

@@ -6,8 +6,8 @@ Some orders of each spec are shown, by their ranks and by the names of their ste
 for at no level, and the others at one or the other. Before them come
 the specs of `shown/`, whose texts and JSON were worked out by hand. With `--alone` no program is run: the moments, texts and JSON of these
 orders are held against what has to hold of each (`moment_laws.py`), as they are and at READ COMMITTED. KIND is one of those below, or `all`:
-`named` has names and texts that are long, alike or steer a terminal, `many` has five to eight sessions, and each of the other kinds is that of
-`generate.py`. The last lines count what was told.
+`named` has names and texts that are long, alike or steer a terminal, `many` has five to eight sessions, `stale` has sessions that read without locks
+what others write, and each of the other kinds is that of `generate.py`. The last lines count what was told.
 """
 
 import json
@@ -39,7 +39,7 @@ NOTES = [" holds ", " is ahead, for ", ", has ", " and asks ", "  ring ", "  now
 NOTES += [f"in a {where}\n" for where in ("transaction", "failed block")] + [" waits\n", "  nothing", "\\u{"]
 # Widths of tables' names, round those with which `left in` is broken, and with which they are.
 LONG_TABLES = [*range(71, 74), *range(77, 80), 155, 156, 157]
-MEMBERS = ["want", "ring", "lacks", "has"]
+MEMBERS = ["want", "ring", "lacks", "has", "stale"]
 HOSTILE = ["<b>", "</script>", "&amp;", "\u2028", "\u202e", "\x1b[31m", "\\u003c", "\\", '"', "'", "~", "#0", "#", "\t", "\x7f", "é", "字"]
 HOSTILE += ["\U0001f600", "\u00ad", " ", "  ", "-", "\x0b", "\r"]
 
@@ -106,7 +106,34 @@ def many_spec(maker):
     return namer.named(made.decode()) if namer.some(0.4) else made
 
 
-MORE = {"named": named_spec, "many": many_spec}
+STALE_READS = ["SELECT v FROM t WHERE id = {key}", "SELECT * FROM t", "SELECT w, id FROM t WHERE v > 15", "SELECT count(*), sum(v) FROM t"]
+STALE_READS += ["SELECT count(*) FROM t WHERE v < 25", "SELECT a FROM n ORDER BY a", "SELECT id FROM t WHERE id = {key} FOR SHARE"]
+STALE_WRITES = ["UPDATE t SET v = v + 10 WHERE id = {key}", "UPDATE t SET v = 10, w = w WHERE id = {key}", "DELETE FROM t WHERE id = {key}"]
+STALE_WRITES += ["UPDATE t SET v = 9223372036854775807 WHERE id = {key}", "UPDATE t SET w = 'b|''c\u0007', v = v - 1 WHERE id = {key}"]
+STALE_WRITES += ["INSERT INTO t VALUES ({key}0, 0, 'new')", "INSERT INTO n VALUES ({key})", "UPDATE n SET a = a + 1 WHERE a = {key}"]
+STALE_ENDS = ["COMMIT"] * 4 + ["COMMIT; BEGIN"] * 2 + ["ROLLBACK", "BEGIN", "BEGIN ISOLATION LEVEL SERIALIZABLE"]
+
+
+def stale_step(namer):
+    """What some sessions read of the same few rows, and what they and others write."""
+    reads, writes, ends = STALE_READS, STALE_WRITES, STALE_ENDS
+    parts = namer.one([[reads], [reads, reads], [reads, writes], [reads, ends], [writes], [writes, ends], [writes, ends], [ends]])
+    return namer.block([namer.one(part).format(key=namer.one("1123")) for part in parts])
+
+
+def stale_spec(maker):
+    """Sessions that read without locks what others write, most of them in blocks."""
+    namer = Namer(maker.random.randrange(10**9))
+    made = "# level: read-committed\nsetup { CREATE TABLE t (id int PRIMARY KEY, v int, w text); CREATE TABLE n (a int);\n"
+    made += "  INSERT INTO t VALUES (1, 10, 'a'), (2, 20, 'b'); INSERT INTO n VALUES (1); }\n"
+    sessions = namer.one([2, 2, 3])
+    for session in range(sessions):
+        made += f"session s{session}\n{namer.one(['', 'setup { BEGIN; }', 'setup { BEGIN; }', 'setup { BEGIN; SELECT v FROM t; }'])}\n"
+        made += "".join(f"step s{session}_{number} {stale_step(namer)}\n" for number in range(5 - sessions + namer.one([1, 2])))
+    return namer.named(made) if namer.some(0.3) else made.encode()
+
+
+MORE = {"named": named_spec, "many": many_spec, "stale": stale_spec}
 ALL_KINDS = {**KINDS, **MORE}
 
 

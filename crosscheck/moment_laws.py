@@ -3,9 +3,10 @@
 import json
 from itertools import combinations, pairwise, permutations
 
-from machine import DEADLOCK, FAULTS, GO_TOGETHER, UNAVAILABLE, cover, outcome, printed, start
+from machine import DEADLOCK, FAULTS, GO_TOGETHER, IN_BLOCK, READ_COMMITTED, UNAVAILABLE, cover, outcome, printed, start
 from moments import AHEAD, HOLDS, NOT_SENT, RESUMED, SENT, STATUSES, Edge
-from shown import HIDDEN, WIDTH, Lanes, broken, json_text, show_value, visible
+from shown import HIDDEN, WIDTH, Lanes, broken, json_text, show_value, visible, word_of
+from sql import Begin, Select
 
 NAMELESS = "session"
 
@@ -134,6 +135,58 @@ def wrong_in_others(moment, before, after):
         yield f"tells of others {moment.still} and not {still}"
 
 
+def told_if_sent(world, session, statement):
+    """What a session would be told if it were sent this statement, and waited for nothing."""
+    world = world.fork()
+    member, world.waits = world.members[session], []
+    told, member.rest, member.requests = len(member.transcript), [statement], 0
+    world.go(session)
+    return [event for event in member.transcript[told:] if event != "done" and event not in FAULTS]
+
+
+def stands_in(events, part):
+    return any(events[place : place + len(part)] == part for place in range(len(events)))
+
+
+def last_reads(spec, moments, session):
+    """The SELECTs of the last moment of a session, each with what it told, where that was a whole step of SELECTs in a block."""
+    last = next((moment for moment in reversed(moments) if moment.session == session), None)
+    if not last or last.kind != SENT or last.status != "in" or last.want:
+        return
+    selects, told = spec.steps[last.step][1], []
+    if all(isinstance(one, Select) for one in selects):
+        for event in last.events:
+            told += [event] * (word_of(event) in ("row", "rows"))
+            if word_of(event) == "rows":
+                yield selects[0], last.step, told
+                selects, told = selects[1:], []
+
+
+def wrong_in_stale(spec, moments, moment, before, after):
+    """Of reads of others. Stale is what was told in an open transaction and would be told otherwise now, and not already before."""
+    sessions = [one.session for one in moment.stale]
+    if sessions != sorted(sessions) or (sessions and before.committed == after.committed):
+        yield "reads are stale without a commit, or not in the order of their sessions"
+    for one in moment.stale:
+        member, (owner, statements) = before.members[one.session], spec.steps[one.step]
+        is_open = member.status == IN_BLOCK or wait_at(before, one.session)
+        # A BEGIN behind a SELECT of its step may have made the transaction a block of another level.
+        is_locked = spec.level is None or (member.level != READ_COMMITTED and not any(isinstance(statement, Begin) for statement in statements))
+        if owner != one.session or owner == moment.session or not is_open or is_locked:
+            yield f"no read of session {one.session} can be stale"
+            continue
+        ways = [[told_if_sent(world, owner, statement) for world in (before, after)] for statement in statements if isinstance(statement, Select)]
+        if not stands_in(member.transcript, one.told) or not any(one.told_now == now not in (was, one.told) for was, now in ways):
+            yield f"the read {one.told} of session {one.session} would not be told {one.told_now}"
+    for session, member in enumerate(before.members):
+        if session != moment.session and member.level == READ_COMMITTED:
+            stale = [(one.step, one.told, one.told_now) for one in moment.stale if one.session == session]
+            for select, step, told in last_reads(spec, moments, session):
+                was, now = [told_if_sent(world, session, select) for world in (before, after)]
+                if now not in (was, told) and (step, told, now) not in stale:
+                    yield f"the read {told} of session {session} is stale, which is not told"
+
+
 def wrong_in_moment(moment, before, after, scene):
     yield from wrong_in_events(moment, before, after)
     yield from wrong_in_want(after, moment.session, moment.want)
@@ -174,6 +227,7 @@ def wrong_in_moments(order):
         yield "other steps are sent"
     for number, (moment, (before, after), scene) in enumerate(zip(told.moments, pairwise(told.worlds), told.scenes, strict=True)):
         yield from (f"moment {number}: {wrong}" for wrong in wrong_in_moment(moment, before, after, scene))
+        yield from (f"moment {number}: {wrong}" for wrong in wrong_in_stale(spec, told.moments[:number], moment, before, after))
     yield from wrong_in_ends(spec, told)
 
 

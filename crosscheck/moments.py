@@ -6,7 +6,8 @@ The machine is that of `machine.py`. Here it is led from moment to moment, and l
 
 from dataclasses import dataclass
 
-from machine import DEADLOCK, FAILED_BLOCK, IN_BLOCK, OUTSIDE, UNAVAILABLE, Wait, World, start
+from machine import DEADLOCK, FAILED_BLOCK, IN_BLOCK, OUTSIDE, UNAVAILABLE, Fault, Wait, World, start
+from sql import Select
 
 SENT, RESUMED, NOT_SENT = "sent", "resumed", "notsent"
 HOLDS, AHEAD = "holds", "ahead"
@@ -45,6 +46,25 @@ class Hop:
 
 
 @dataclass
+class Read:
+    """A SELECT that a session's open transaction has done, with its step and what it told."""
+
+    step: int
+    select: Select
+    told: list
+
+
+@dataclass
+class Stale:
+    """A read of this session and step that tells something else since a commit."""
+
+    session: int
+    step: int
+    told: list
+    told_now: list
+
+
+@dataclass
 class Moment:
     session: int
     kind: str
@@ -56,6 +76,7 @@ class Moment:
     ring: list | None
     lacks: Want | None
     still: list  # sessions, each with its edges
+    stale: list
 
 
 @dataclass
@@ -154,16 +175,26 @@ def last_sent(transcript):
     return next((event[1] for event in reversed(transcript) if event[0] == "sent"), None)
 
 
+def told_again(world, session, select):
+    """What a SELECT tells of the committed rows with the session's own writes over them, and nothing where it fails."""
+    try:
+        return World.effect(world, session, select)[0]
+    except Fault:
+        return []
+
+
 # ---- the machine, from moment to moment
 
 
 class Noting(World):
-    """A world that notes, while a session goes, what becomes of its locks and why a request of it is refused."""
+    """A world that notes, while a session goes, what becomes of its locks and why a request of it is refused. It keeps what each open transaction has
+    read; what a setup read is of no step, and is not kept."""
 
     def __init__(self, spec):
         super().__init__(spec)
         vars(self).update(vars(start(spec)))
         self.changes, self.ring, self.lacks, self.scene = [], None, None, None
+        self.reads = [[] for _ in self.members]
 
     def hold(self, wait):
         super().hold(wait)
@@ -172,7 +203,23 @@ class Noting(World):
     def let_go(self, session):
         if locks_of(self, session):
             self.changes.append(None)
+        self.reads[session] = []
         super().let_go(session)
+
+    def effect(self, session, statement):
+        events, overlay = super().effect(session, statement)
+        if isinstance(statement, Select):
+            self.reads[session].append(Read(last_sent(self.members[session].transcript), statement, events))
+        return events, overlay
+
+    def others_read(self, session):
+        """Of each read of the other sessions what it would tell now."""
+        return [
+            Stale(other, read.step, read.told, told_again(self, other, read.select))
+            for other, reads in enumerate(self.reads)
+            if other != session
+            for read in reads
+        ]
 
     def fail(self, session, event):
         """Looks at a request that is refused as if it had waited, behind all others."""
@@ -194,7 +241,7 @@ class Noting(World):
 
 def moment(world, session, kind, step, going):
     """What a session does, the world before it being this one."""
-    before, told = reasons(world), len(world.members[session].transcript)
+    before, read, told = reasons(world), world.others_read(session), len(world.members[session].transcript)
     world.forget()
     going()
     member, wait, now = world.members[session], wait_of(world, session), reasons(world)
@@ -209,6 +256,7 @@ def moment(world, session, kind, step, going):
         world.ring,
         world.lacks,
         [(one, now[one]) for one in sorted(now) if one != session and now[one] and now[one] != before.get(one)],
+        [one for one, was in zip(world.others_read(session), read, strict=True) if one.told_now not in (was.told_now, one.told)],
     )
 
 

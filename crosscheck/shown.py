@@ -130,6 +130,14 @@ def reason_text(names, edge):
     return f"{names[edge.session]} holds {edge.mode}" if edge.why == HOLDS else f"{names[edge.session]} is ahead, for {edge.mode}"
 
 
+def rows_text(events):
+    return visible(", ".join(row_text(event[1]) for event in events if word_of(event) == "row")) or "no row"
+
+
+def stale_text(spec, writer, stale):
+    return f"{visible(spec.step_names[stale.step])} read {rows_text(stale.told)}; {writer} committed {rows_text(stale.told_now)}"
+
+
 def word_of(event):
     return event if isinstance(event, str) else event[0]
 
@@ -203,7 +211,7 @@ class Lanes:
         yield "", [(" ", head) for head in self.heads]
         rails = [RAILS[status] for status, _locks in self.order.shown.begun]
         for moment in self.order.shown.moments:
-            lines = {session: self.still_lines(rails[session], edges) for session, edges in moment.still}
+            lines = {session: self.other_lines(rail, moment, session) for session, rail in enumerate(rails)}
             lines[moment.session] = own_lines(self.order.spec, self.names, moment, self.text)
             rails[moment.session] = RAILS[standing_behind(moment)]
             left = "" if moment.kind == RESUMED else self.steps[moment.step]
@@ -213,8 +221,11 @@ class Lanes:
                     cells[session] = own[row] if row < len(own) else cells[session]
                 yield left if row == 0 else "", cells
 
-    def still_lines(self, rail, edges):
-        return [(rail, line) for edge in edges for line in broken("now " + reason_text(self.names, edge), self.text, 2, 4)]
+    def other_lines(self, rail, moment, session):
+        """What stands in the lane of another session: why it waits now, and which of its reads are stale."""
+        notes = ["now " + reason_text(self.names, edge) for other, edges in moment.still if other == session for edge in edges]
+        notes += [stale_text(self.order.spec, self.names[moment.session], one) for one in moment.stale if one.session == session]
+        return [(rail, line) for note in notes for line in broken(note, self.text, 2, 4)]
 
     def row_text(self, left, cells):
         return left.ljust(self.left) + "".join(f"{rail} {text}".ljust(self.cell) for rail, text in cells)
@@ -371,6 +382,8 @@ def moment_value(spec, moment):
     if moment.lacks:
         value["lacks"] = want_value(moment.lacks)
     value["still"] = [[session, [edge_value(edge) for edge in edges]] for session, edges in moment.still]
+    if moment.stale:
+        value["stale"] = [[one.session, one.step, lines_value(spec, one.told), lines_value(spec, one.told_now)] for one in moment.stale]
     return value
 
 

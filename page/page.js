@@ -93,7 +93,7 @@ const tagsOf = one => Object.keys(LETTERS).filter(letter => one.letters.includes
 const nothingOf = () => !isByResult() ? 'nobody waits' : data.totals.R ? 'result of a serial order' : 'no error';
 const isAsked = one => Object.entries(want).every(([letter, how]) => (how === 'with') === one.letters.includes(letter));
 // What a query finds: its rows, or that there is none, or an error.
-const foundText = lines => lines.join() === 'rows 0' ? 'no row' : lines.filter(line => !line.startsWith('rows ')).map(line => line.replace(/^row /, '')).join(', ');
+const foundText = lines => lines.filter(line => !line.startsWith('rows ')).map(line => line.replace(/^row /, '')).join(', ') || 'no row';
 
 function placesAsked() {
   const places = data.classes.map((_one, at) => at).filter(at => isAsked(data.classes[at]));
@@ -211,6 +211,9 @@ function levelText(asked, lines) {
 
 const wants = it => [`wants ${it.wants} on `, name(it.on), it.has ? (it.asks === it.wants ? `, has ${it.has}` : `: has ${it.has} and asks ${it.asks}`) : ''];
 const reason = ([other, why, mode]) => [who(other), why === 'holds' ? ` holds ${mode}` : ` is ahead, for ${mode}`];
+// What a session read that a commit made stale.
+const staleOf = (moment, session) => (moment.stale || []).filter(([one]) => one === session)
+  .map(([, step, was, now]) => [stepOf(step), ' read ', name(foundText(was)), '; ', who(moment.session), ' committed ', name(foundText(now))]);
 const isWait = moment => moment.told.at(-1) === 'waiting';
 const failed = moment => moment.told.some(line => line.startsWith('error: '));
 
@@ -311,8 +314,9 @@ function drawMoment(moment, row) {
   for (const [session, edges] of moment.still) { rows[session] = above; above += edges.length; }
   return h('tr', { class: is_under ? 'under' : '', vars: above ? { above } : {} }, head, data.sessions.map((_name, session) => {
     const is_mine = session === moment.session, waits = state.waits[session], now = moment.still.find(([one]) => one === session);
+    const stale = staleOf(moment, session).map(one => why(one));
     const is_idle = state.status[session] === 'out' && !waits && !is_mine && !state.after[session].size;
-    const classes = [waits && 'stands', waits && (is_mine || now) && 'says', is_idle && 'outside',
+    const classes = [waits && 'stands', waits && (is_mine || now || stale[0]) && 'says', is_idle && 'outside',
       is_mine && failed(moment) ? 'refused' : state.status[session] === 'failed' && !waits && 'broken'];
     const hop = moment.ring ? moment.ring.findIndex(([one]) => one === session) : -1;
     return h('td', { class: classes.filter(Boolean).join(' '), tabindex: -1, 'aria-describedby': 'inspector', 'data-row': row, 'data-session': session },
@@ -321,7 +325,7 @@ function drawMoment(moment, row) {
         'data-on': on, 'data-holder': session, 'aria-hidden': true, vars: { slot: state.slots[session].get(on) },
       })),
       is_mine ? cellOf(moment, state, ring) : '',
-      now ? [now[1].map(edge => why('now ', part(reason(edge)))), arrowsOf(now[1], session, waits.it.on, rows[session], state)] : '',
+      now ? [now[1].map(edge => why('now ', part(reason(edge)))), arrowsOf(now[1], session, waits.it.on, rows[session], state)] : '', stale,
       hop >= 0 ? ringArrow(moment.ring[hop], hop, state) : '');
   }));
 }
@@ -435,7 +439,8 @@ function sentences(row, session) {
     says.push([who(session), ' waits with ', stepOf(waits.step), ': it ', wants(waits.it), '. ', reasons(state.edges[session], waits.it.on, state), '. ',
       endOfWait(waits.at, session)]);
   }
-  const open = { in: ' is in a transaction', failed: ' is in a failed block, which takes COMMIT and ROLLBACK alone,', out: ' has no transaction open' }[state.status[session]];
+  says.push(...staleOf(moment, session).map(one => [one, '.']));
+  const open = { ...OPEN, failed: ' is in a failed block, which takes COMMIT and ROLLBACK alone,', out: ' has no transaction open' }[state.status[session]];
   const held = state.after[session].size ? locksText(state.after[session]) : 'no lock';
   says.push([is_mine && moment.locks.includes(null) ? 'Its locks were let go. ' : '', 'Then ', who(session), open, ' and holds ', held, '.']);
   return says;

@@ -5,7 +5,7 @@ pub(crate) const FRONT: &[u8] = br#"<!doctype html>
 <html lang="en">
 <head>
 <meta charset="utf-8">
-<meta http-equiv="Content-Security-Policy" content="default-src 'none'; style-src 'sha256-ZyH/uHs5uTj3x9FWRhmesaNOWz0Pzh6aoNldvEN8Uu4='; script-src 'sha256-wEtZnDn22cKD/pj8RlSqr4/LiOLu97we28eUpblyf3c='; base-uri 'none'; form-action 'none'">
+<meta http-equiv="Content-Security-Policy" content="default-src 'none'; style-src 'sha256-ngARmNP9XnmqxoVT13qX0luh8dNwuWNcE8u+wyg4r3I='; script-src 'sha256-H4djJ/B0TELys/wyUcnfgwhg/ezhfhTg6cwEHL00/YI='; base-uri 'none'; form-action 'none'">
 <meta name="viewport" content="width=device-width, initial-scale=1">
 <title>isofarm classes</title>
 <style>"#;
@@ -37,25 +37,24 @@ pub(crate) const STYLE: &[u8] = br#":root {
 }
 * { box-sizing: border-box; }
 [hidden] { display: none !important; }
-body { margin: 0; background: var(--ground); color: var(--ink); font: 14px/1.45 var(--sans); }
+body { margin: 0; background: var(--ground); color: var(--ink); font: 14px/1.45 var(--sans); font-variant-numeric: tabular-nums; }
 h1, h2, h3, p { margin: 0; font-weight: 600; }
 h1 { font-size: 20px; letter-spacing: -.01em; overflow-wrap: anywhere; }
 h2 { font-size: 14px; }
 p { font-weight: 400; }
 bdi { unicode-bidi: isolate; white-space: pre-wrap; }
 td, .order, code { font-family: var(--mono); font-size: 12.5px; line-height: 1.45; }
-.muted { color: var(--muted); }
+.muted { color: var(--muted); font-weight: 400; }
+.space { flex: 1; }
 .hidden { position: absolute; width: 1px; height: 1px; overflow: hidden; clip-path: inset(50%); white-space: nowrap; }
-button { font: inherit; color: inherit; background: var(--surface); border: 1px solid var(--strong); border-radius: 5px; }
-button { padding: 2px 9px; min-height: 28px; cursor: pointer; }
+button { font: inherit; color: inherit; background: var(--surface); border: 1px solid var(--strong); border-radius: 5px; padding: 2px 9px; min-height: 28px; cursor: pointer; }
 button:hover { background: var(--raised); }
 :focus-visible { outline: 2px solid var(--mark); outline-offset: 1px; }
 
 /* the head, what is expected, the letters */
 header { display: flex; flex-wrap: wrap; gap: 4px 20px; align-items: baseline; padding: 18px 24px 12px; }
 header .figures { color: var(--muted); }
-header .figures b { color: var(--ink); font-weight: 600; font-variant-numeric: tabular-nums; }
-header .space { flex: 1; }
+header .figures b { color: var(--ink); font-weight: 600; }
 #theme { border-color: var(--line); font-size: 12px; color: var(--muted); background: none; }
 main { padding: 0 24px 24px; }
 .results { container-type: inline-size; min-width: 0; }
@@ -65,8 +64,8 @@ main { padding: 0 24px 24px; }
 .filters { display: grid; gap: 6px; grid-template-columns: repeat(3, 1fr); margin-bottom: 12px; }
 .filters button { display: grid; grid-template-columns: 15px auto 1fr; gap: 0 7px; align-content: start; align-items: center; text-align: left; border-color: var(--line); padding: 4px 10px; }
 .filters .sign { display: grid; place-items: center; width: 15px; height: 15px; border: 1px solid var(--strong); border-radius: 3px; font: 700 12px/1 var(--mono); }
-.filters .share { text-align: right; white-space: nowrap; font-variant-numeric: tabular-nums; }
-.filters .counts { grid-column: 1 / 4; color: var(--muted); font-size: 12px; font-variant-numeric: tabular-nums; }
+.filters .share { text-align: right; white-space: nowrap; }
+.filters .counts { grid-column: 1 / 4; color: var(--muted); font-size: 12px; }
 .filters [data-want="with"] { border-color: var(--mark); background: var(--picked); }
 .filters [data-want="with"] .sign { color: var(--mark); border-color: var(--mark); }
 .filters [data-want="without"] { border: 1px dashed var(--strong); background: var(--raised); }
@@ -82,7 +81,6 @@ main { padding: 0 24px 24px; }
 }
 .card { background: var(--surface); border: 1px solid var(--line); border-radius: 8px; min-width: 0; }
 .card > .top { display: flex; flex-wrap: wrap; gap: 2px 12px; align-items: baseline; padding: 10px 14px; border-bottom: 1px solid var(--line); }
-.card > .top .space { flex: 1; }
 .card > .foot { padding: 8px 14px; border-top: 1px solid var(--line); color: var(--muted); font-size: 12px; }
 .card > .absent { padding: 12px 14px; }
 
@@ -101,9 +99,9 @@ main { padding: 0 24px 24px; }
 .classes tbody tr:focus-visible { outline-offset: -2px; }
 .classes th:first-child { width: 42px; }
 .classes th:last-child { width: 110px; }
-.classes .number { text-align: right; color: var(--muted); font-variant-numeric: tabular-nums; }
+.classes .number { text-align: right; color: var(--muted); }
 .classes tr[aria-selected="true"] .number { color: var(--ink); font-weight: 600; }
-.classes .count { text-align: right; font-variant-numeric: tabular-nums; white-space: nowrap; }
+.classes .count { text-align: right; white-space: nowrap; }
 .classes th:first-child, .classes th:last-child { text-align: right; }
 .classes .share { display: inline-block; min-width: 7ch; color: var(--muted); }
 .bar { display: block; height: 4px; margin-top: 4px; border-radius: 2px; background: var(--raised); }
@@ -128,26 +126,24 @@ main { padding: 0 24px 24px; }
 .timeline col.steps { width: calc(28px + var(--longest) * 8px); }
 .timeline thead th { font: 600 13px var(--sans); text-align: left; padding: 8px 8px 6px 14px; overflow-wrap: anywhere; border-bottom: 1px solid var(--strong); }
 .timeline thead th.lane { box-shadow: inset 1px 0 var(--line); }
-.timeline thead th .muted { font-weight: 400; }
 .timeline tbody th { font: 600 12.5px/1.45 var(--mono); text-align: left; vertical-align: top; padding: 5px 6px 5px 14px; }
 .timeline tbody th { overflow-wrap: anywhere; border-top: 1px solid var(--line); }
 .timeline tbody tr.under th, .timeline tbody tr.under td { border-top: 1px dotted var(--line); }
 .timeline tbody tr.under th { font-weight: 400; color: var(--muted); padding-left: 20px; }
 .timeline td { position: relative; vertical-align: top; padding: calc(5px + var(--above, 0) * 10px) 16px 5px var(--indent); height: 30px; }
-.timeline td { border-top: 1px solid var(--line); box-shadow: inset 1px 0 var(--line); overflow-wrap: anywhere; }
+.timeline td { border-top: 1px solid var(--line); box-shadow: inset 1px 0 var(--line); overflow-wrap: anywhere; scroll-margin: 40px 0 170px; }
 .timeline td:focus-visible { outline-offset: -2px; z-index: 5; }
-.timeline td { scroll-margin: 40px 0 170px; }
 .timeline .sql { color: var(--muted); font-size: .92em; overflow: hidden; display: -webkit-box; -webkit-box-orient: vertical; -webkit-line-clamp: 2; line-clamp: 2; }
 .timeline .told, .timeline .had, .timeline .why { display: block; }
 .timeline .had { font-size: .88em; color: var(--muted); }
 .timeline .why { padding-left: 10px; text-indent: -10px; margin-left: 10px; font-size: .96em; }
 .timeline .part { display: inline-block; text-indent: 0; }
-.pill { display: inline-block; white-space: nowrap; font: 600 .92em/1.35 var(--sans); padding: 0 6px; border-radius: 9px; border: 1px solid; margin: 0 0 1px 0; }
-.pill.wait { color: var(--wait); border-style: dashed; background: var(--surface); }
+.pill { display: inline-block; white-space: nowrap; font: 600 .92em/1.35 var(--sans); padding: 0 6px; border-radius: 9px; border: 1px solid; margin-bottom: 1px; background: var(--surface); }
+.pill.wait { color: var(--wait); border-style: dashed; }
 .pill.fail { color: var(--surface); background: var(--fail); border-color: var(--fail); }
-.pill.on { color: var(--ink); border-color: var(--strong); background: var(--surface); }
+.pill.on { color: var(--ink); border-color: var(--strong); }
 .pill.end { color: var(--ink); border-color: var(--line); background: var(--raised); }
-.pill.good { color: var(--good); background: var(--surface); }
+.pill.good { color: var(--good); }
 .timeline td.stands { background: var(--wait-ground) repeating-linear-gradient(135deg, transparent 0 7px, var(--wait-stripe) 7px 9px); }
 .timeline td.stands.says { background: var(--wait-ground); }
 .timeline td.broken { background: repeating-linear-gradient(0deg, transparent 0 5px, var(--fail-stripe) 5px 6px); }
@@ -160,8 +156,8 @@ main { padding: 0 24px 24px; }
 .lock.from { top: 9px; border-top-left-radius: 3px; border-top-right-radius: 3px; }
 .lock.to { bottom: 5px; border-bottom-left-radius: 3px; border-bottom-right-radius: 3px; }
 .lock.X { background: var(--lock); }
-.lock.SIX { border: solid var(--lock); border-width: 0 1px 0 3px; background: var(--surface); }
-.lock.S { border: solid var(--lock); border-width: 0 1px; background: var(--surface); }
+.lock.S, .lock.SIX { border: solid var(--lock); border-width: 0 1px; background: var(--surface); }
+.lock.SIX { border-left-width: 3px; }
 .lock.S.from, .lock.SIX.from { border-top-width: 1px; }
 .lock.S.to, .lock.SIX.to { border-bottom-width: 1px; }
 .lock.IX, .lock.IS { width: 0; margin-left: 2px; border-left: 2px dashed var(--lock); border-radius: 0; }
@@ -191,7 +187,6 @@ main { padding: 0 24px 24px; }
 .ends > p { width: 100%; font-size: 13px; }
 .ends table { border-collapse: collapse; }
 .ends caption { text-align: left; font: 600 12px/1.6 var(--sans); white-space: nowrap; }
-.ends caption .muted { font-weight: 400; }
 .ends td { border: 1px solid var(--line); padding: 2px 9px; vertical-align: top; }
 .ends td.other { background: var(--picked); box-shadow: inset 2px 0 var(--mark); }
 .ends td .was { display: block; color: var(--muted); font-size: .88em; }
@@ -410,7 +405,7 @@ const tagsOf = one => Object.keys(LETTERS).filter(letter => one.letters.includes
 const nothingOf = () => !isByResult() ? 'nobody waits' : data.totals.R ? 'result of a serial order' : 'no error';
 const isAsked = one => Object.entries(want).every(([letter, how]) => (how === 'with') === one.letters.includes(letter));
 // What a query finds: its rows, or that there is none, or an error.
-const foundText = lines => lines.join() === 'rows 0' ? 'no row' : lines.filter(line => !line.startsWith('rows ')).map(line => line.replace(/^row /, '')).join(', ');
+const foundText = lines => lines.filter(line => !line.startsWith('rows ')).map(line => line.replace(/^row /, '')).join(', ') || 'no row';
 
 function placesAsked() {
   const places = data.classes.map((_one, at) => at).filter(at => isAsked(data.classes[at]));
@@ -528,6 +523,9 @@ function levelText(asked, lines) {
 
 const wants = it => [`wants ${it.wants} on `, name(it.on), it.has ? (it.asks === it.wants ? `, has ${it.has}` : `: has ${it.has} and asks ${it.asks}`) : ''];
 const reason = ([other, why, mode]) => [who(other), why === 'holds' ? ` holds ${mode}` : ` is ahead, for ${mode}`];
+// What a session read that a commit made stale.
+const staleOf = (moment, session) => (moment.stale || []).filter(([one]) => one === session)
+  .map(([, step, was, now]) => [stepOf(step), ' read ', name(foundText(was)), '; ', who(moment.session), ' committed ', name(foundText(now))]);
 const isWait = moment => moment.told.at(-1) === 'waiting';
 const failed = moment => moment.told.some(line => line.startsWith('error: '));
 
@@ -628,8 +626,9 @@ function drawMoment(moment, row) {
   for (const [session, edges] of moment.still) { rows[session] = above; above += edges.length; }
   return h('tr', { class: is_under ? 'under' : '', vars: above ? { above } : {} }, head, data.sessions.map((_name, session) => {
     const is_mine = session === moment.session, waits = state.waits[session], now = moment.still.find(([one]) => one === session);
+    const stale = staleOf(moment, session).map(one => why(one));
     const is_idle = state.status[session] === 'out' && !waits && !is_mine && !state.after[session].size;
-    const classes = [waits && 'stands', waits && (is_mine || now) && 'says', is_idle && 'outside',
+    const classes = [waits && 'stands', waits && (is_mine || now || stale[0]) && 'says', is_idle && 'outside',
       is_mine && failed(moment) ? 'refused' : state.status[session] === 'failed' && !waits && 'broken'];
     const hop = moment.ring ? moment.ring.findIndex(([one]) => one === session) : -1;
     return h('td', { class: classes.filter(Boolean).join(' '), tabindex: -1, 'aria-describedby': 'inspector', 'data-row': row, 'data-session': session },
@@ -638,7 +637,7 @@ function drawMoment(moment, row) {
         'data-on': on, 'data-holder': session, 'aria-hidden': true, vars: { slot: state.slots[session].get(on) },
       })),
       is_mine ? cellOf(moment, state, ring) : '',
-      now ? [now[1].map(edge => why('now ', part(reason(edge)))), arrowsOf(now[1], session, waits.it.on, rows[session], state)] : '',
+      now ? [now[1].map(edge => why('now ', part(reason(edge)))), arrowsOf(now[1], session, waits.it.on, rows[session], state)] : '', stale,
       hop >= 0 ? ringArrow(moment.ring[hop], hop, state) : '');
   }));
 }
@@ -752,7 +751,8 @@ function sentences(row, session) {
     says.push([who(session), ' waits with ', stepOf(waits.step), ': it ', wants(waits.it), '. ', reasons(state.edges[session], waits.it.on, state), '. ',
       endOfWait(waits.at, session)]);
   }
-  const open = { in: ' is in a transaction', failed: ' is in a failed block, which takes COMMIT and ROLLBACK alone,', out: ' has no transaction open' }[state.status[session]];
+  says.push(...staleOf(moment, session).map(one => [one, '.']));
+  const open = { ...OPEN, failed: ' is in a failed block, which takes COMMIT and ROLLBACK alone,', out: ' has no transaction open' }[state.status[session]];
   const held = state.after[session].size ? locksText(state.after[session]) : 'no lock';
   says.push([is_mine && moment.locks.includes(null) ? 'Its locks were let go. ' : '', 'Then ', who(session), open, ' and holds ', held, '.']);
   return says;
