@@ -4,6 +4,6 @@
 mod wanted;
 
 pub use wanted::{
-    DEFAULT_MEMORY, WantedClasses, WantedExpectation, WantedFilter, WantedForm, WantedOutcomes,
-    WantedSample, WantedTest,
+    DEFAULT_MEMORY, WantedClasses, WantedExpectation, WantedFilter, WantedForm, WantedLevels,
+    WantedOutcomes, WantedSample, WantedTest,
 };

@@ -118,6 +118,19 @@ fn of_sample<'a>(sample: Option<WantedSample>, all_orders: bool) -> Option<Wante
     }
 }
 
+/// What is wanted of the classes of a spec at both levels.
+#[derive(Clone, Copy, Drop)]
+pub struct WantedLevels {
+    /// The totals alone are told.
+    pub brief: bool,
+    /// With what each session receives in the first order of each result.
+    pub outcomes: bool,
+    /// With the final rows of each result.
+    pub final_rows: bool,
+    /// So many megabytes may be taken by states, and by what is kept of one level while the other one is explored.
+    pub memory: u64,
+}
+
 /// What is wanted of the classes of what books tell.
 #[derive(Clone, Copy, Drop)]
 pub struct WantedOutcomes {
