@@ -3,7 +3,7 @@
 usage: python3 crosscheck/compare_classes.py PROGRAM|--alone KIND FIRST_SEED SEEDS
 
 Of each spec are asked for: all classes and results, brief or not, of the orders that clients can send and of all permutations, as text, as JSON and
-as a page that a browser opens, and then some mix of filters, flags, queries and expectations (`class_asking.py`). By its seed half of the specs are asked for
+as a page that a browser opens, both levels side by side, and then some mix of filters, flags, queries and expectations (`class_asking.py`). By its seed half of the specs are asked for
 at no level, a third at READ COMMITTED and the others at SERIALIZABLE. What the command line refuses has
 to have the same status, and all else the same bytes. Of a spec with many orders some are made permutation lines. Before them come the pages of
 `classes/`, which were worked out by hand. With `--alone` no program is run: orders are counted by layers of states and one by one, and classes, texts
@@ -23,9 +23,9 @@ from tempfile import TemporaryDirectory
 
 from class_asking import Asker
 from class_laws import MOST_ONE_BY_ONE, MOST_SESSIONS, wrong_anomalies, wrong_filters, wrong_first_orders, wrong_numbers, wrong_orders, wrong_pages
-from class_laws import wrong_queries, wrong_ways
+from class_laws import wrong_of_levels, wrong_queries, wrong_ways
 from class_pages import kinds_of, read_back
-from class_request import ALL_ORDERS, BRIEF, BY_RESULT, HTML, JSON, LEVEL, request_of
+from class_request import ALL_ORDERS, BOTH_LEVELS, BRIEF, BY_RESULT, FINAL_ROWS, HTML, JSON, LEVEL, OUTCOMES, request_of
 from classes import Asking, share, table_lines
 from compare import Comparison, ended, fault_of, told
 from compare_shown import ALL, ALL_KINDS, ALONE, FILES, bound, specs_of
@@ -37,6 +37,7 @@ from refusal import Refusal
 WORKED = Path(__file__).resolve().parent / "classes"
 MOST_ORDERS, MOST_LINES, NEAR_RANKS = 300_000, 60, 40
 TOLD = [[], [BY_RESULT], [ALL_ORDERS], [ALL_ORDERS, BY_RESULT], [BRIEF], [JSON], [JSON, ALL_ORDERS], [JSON, BY_RESULT, BRIEF], [HTML]]
+TOLD += [[BOTH_LEVELS], [BOTH_LEVELS, FINAL_ROWS, OUTCOMES]]
 # So many runs of a spec ask for something by filters, queries and expectations.
 RUNS_ASKED = 8
 # At which level a spec is asked for by a word.
@@ -126,7 +127,7 @@ def level_of(seed):
 
 def at_level(words, level):
     """The words with this level, where they have none."""
-    return words if level is None or LEVEL in words else [*words, LEVEL, level]
+    return words if level is None or {LEVEL, BOTH_LEVELS}.intersection(words) else [*words, LEVEL, level]
 
 
 def requests(asking, seed, level=None):
@@ -377,8 +378,9 @@ def wrong_told(asking, seed, counts):
         status, out, error = asking.answer(path, words)
         counts.update(kinds_of(out) if out else ["status 2"] if status == 2 else [f"refused: {fault_of(error)}"])
         wrong = [*read_back(out).wrong(status)] if out else []
-        wrong += wrong_pages(asking.at(request_of(words).level), path, words, random) if status != 2 else []
+        wrong += wrong_pages(asking.at(request_of(words).level), path, words, random) if status != 2 and BOTH_LEVELS not in words else []
         yield from (f"{' '.join(words)}: {one}" for one in wrong)
+    yield from wrong_of_levels(asking, path)
 
 
 def wrong_alone(asking, seed, counts):
