@@ -178,6 +178,7 @@ ASKED = {
         1,
     ),
     "skew.both": ("--deadlock=a --deadlock=b --expect 'SELECT count(*) FROM doctor' 2", 0),
+    "skew.levels": (BOTH_LEVELS, 0),
     "skew.queries": (
         """--deadlock=b --query ' ;SELECT count(*) FROM doctor; -- all' --query 'SELECT name FROM doctor\nWHERE on_call = 1'""",
         0,
@@ -198,6 +199,7 @@ REFUSED = [
     ("skew", """--deadlock='say "a\\"'""", r'skew.spec: no session "say \"a\\\""'),
     ("levels", "--level serializable", "levels.spec: REPEATABLE READ is not modelled (line 6)"),
     ("levels", "--level read-committed --deadlock=e --query ''", "levels.spec: REPEATABLE READ is not modelled (line 6)"),
+    ("levels", BOTH_LEVELS, "levels.spec: REPEATABLE READ is not modelled (line 6)"),
     ("lines", "--no-anomaly", "lines.spec: no serial orders"),
     ("lines", "--by-result --anomaly --waits", "lines.spec: no serial orders"),
     # Queries that do not read, with the place of what cannot stand there, or of their end.
@@ -250,6 +252,7 @@ REFUSED = [
 NO_WORDS = ["--answers", "--brief --look 'SELECT v FROM t'", "--left", "--no-serial", "--serial", "--all-orders --unsent", "--no-unsent --all-orders"]
 NO_WORDS += ["--not-sent", "--json --no-not-sent", "--ranks", "--stuck=a", "--expect 'SELECT v FROM t'", "--json --json", "--html --json", "--brief --html"]
 NO_WORDS += [LEVEL, *(f"{LEVEL} {word}" for word in ("snapshot", "SERIALIZABLE", "repeatable-read", "''", "serializable --level serializable"))]
+NO_WORDS += [f"{BOTH_LEVELS} {word}" for word in (BOTH_LEVELS, JSON, HTML, ALL_ORDERS, BY_RESULT, "--waits", "--sample 7", "--level serializable")]
 NO_WORDS += [f"--memory {number}" for number in ("0", "1000001", "-1", "1e3", "''")]
 # Words, and the front of the first line that `three.spec` has with them. A script of another hand counted these over what a book says of each order.
 COUNTED = {
@@ -273,10 +276,11 @@ COLUMNS = [
 
 
 def brief_text(text):
-    """The parts of a text up to the letters: the head, what is expected, and the totals."""
+    """The parts of a text up to the letters: the head, what is expected, and the totals; of both levels also how many results one alone has."""
     parts = text.split(b"\n\n")
     totals = next(place for place, part in enumerate(parts) if part.startswith(b" " * 5))
-    return b"\n\n".join(part.rstrip(b"\n") for part in parts[: totals + 1]) + b"\n"
+    end = totals + 1 + any(part.startswith(b"only at ") for part in parts[totals + 1 : totals + 2])
+    return b"\n\n".join(part.rstrip(b"\n") for part in parts[:end]) + b"\n"
 
 
 def brief_json(text):
@@ -299,7 +303,7 @@ def worked():
         if BRIEF not in words:
             yield path, [*words, BRIEF], (status, (brief_json if JSON in words else brief_text)(out), b"")
     for name, words, line in REFUSED:
-        for more in ([], [JSON]):
+        for more in ([], [JSON] * (BOTH_LEVELS not in words)):
             yield WORKED / f"{name}.spec", [*split(words), *more], (3, b"", f"isofarm: {line}\n".encode())
     for words in NO_WORDS:
         yield WORKED / "stuck.spec", split(words), (2, b"", b"")

@@ -23,6 +23,7 @@ use Rattle.class_texts.specs.Levels.{Side, levels_bytes}
 use Rattle.class_texts.specs.Pages.{Page}
 use Rattle.class_texts.specs.declared.kind.ClassKind.TheVariants.{Answers}
 use Rattle.wanted_classes.specs.declared.wanted.WantedLevels.{WantedLevels}
+use Rattle.class_commands.specs.Classing.{MayHaveManyStates}
 use Rattle.class_commands.specs.declared.classing.ClassesFault.{ClassesFault}
 use Rattle.class_commands.specs.declared.classing.ClassesFault.TheVariants.{Spec, Level as WrongLevel, Asked, Run, TooMany, NoMemory, Write}
 use Rattle.class_commands.specs.declared.levels.FoundAt.{FoundAt}
@@ -103,10 +104,6 @@ pub record IsTellingOfLevels (bytes path : List ℕ) (wanted : WantedLevels) (te
 abbrev pub IsSoAtLevel : List ℕ → (SpecFile → Type 0) → Type 0
 IsSoAtLevel bytes IsSo = (level : Level) × (file : SpecFile) × IsLevelledSpec bytes (Some level) file × IsSo file
 
--- its orders are counted, the spec has no permutation lines, and it starts
-abbrev pub MayHaveManyStates : SpecFile → Type 0
-MayHaveManyStates file = (file.run.lines ≡ []) × ((w : World) × (start file.run ≡ Started w))
-
 -- why nothing is found at one of the levels: the bytes are no spec file; what it says of levels is wrong; its orders are not run; there is no room for all
 -- states; or memory ran out
 abbrev pub IsNotFoundAt : List ℕ → ClassesFault → Type 0
@@ -114,7 +111,7 @@ IsNotFoundAt bytes (Spec fault) = IsNoSpec bytes fault
 IsNotFoundAt bytes (WrongLevel fault) = (level : Level) × IsWrongLevel bytes (Some level) fault
 IsNotFoundAt bytes (Asked fault) = ⊥
 IsNotFoundAt bytes (Run error) = IsSoAtLevel bytes (λ file. IsNotRunBy error (start file.run))
-IsNotFoundAt bytes (TooMany noted) = IsSoAtLevel bytes MayHaveManyStates
+IsNotFoundAt bytes (TooMany noted) = IsSoAtLevel bytes (MayHaveManyStates None)
 IsNotFoundAt bytes NoMemory = Unit {0}
 IsNotFoundAt bytes (Write fault) = ⊥
 

@@ -223,8 +223,8 @@ fn results_of(alloc: Global, rows: &[ClassRow]) -> Result<Different, AllocError>
     ensures { IfOk result (AreResultsOf rows.now) }
 {
     let mut results = Different::new(alloc);
-    for row in rows {
-        let answers = answers_of(alloc, &row.shows)?;
+    for place in 0..rows.len() {
+        let answers = answers_of(alloc, &rows[place].shows)?;
         results.number(&answers)?;
     }
     Ok(results)

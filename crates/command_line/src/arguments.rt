@@ -267,7 +267,7 @@ pub const LEVEL: Word = Word {
 
 pub const LEVELS: Word = Word {
     name: "levels",
-    help: "Both isolation levels side by side",
+    help: "Print both isolation levels side by side",
     form: Form::BothLevels,
 };
 
