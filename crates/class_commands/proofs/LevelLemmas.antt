@@ -1,6 +1,6 @@
 -- Both levels: the results that one of them alone has, and what is written.
 use Rattle.std.specs.Prelude.{⊤}
-use Rattle.std.proofs.Common.{◌≡◌, ◌↔◌, ◌⊎◌, refl, sym, ap, ◌∙◌, subst, ℕ, zero, suc, Bool, true, false, List, [], ◌∷◌, ◌++◌, take, drop, length, slice_get, Option, Some, None, Result, Ok, Err, IfOk, inl, inr, ⊎_elim}
+use Rattle.std.proofs.Common.{◌≡◌, ◌↔◌, ◌⊎◌, refl, sym, ap, ◌∙◌, subst, ℕ, zero, suc, Bool, true, false, cond, List, [], ◌∷◌, ◌++◌, take, drop, length, slice_get, Option, Some, None, Result, Ok, Err, IfOk, inl, inr, ⊎_elim}
 use Rattle.std.specs.Option.{is_some}
 use Rattle.std.specs.Prelude.{MatchOption}
 use Rattle.binding_model.specs.declared.tables.Table.{Table}
@@ -32,9 +32,6 @@ use Rattle.class_commands.specs.Levels.{AreOnly, HasResult, IsFoundAt, IsLevelsR
 use Rattle.class_commands.specs.LevelParts.{AreCountedTwice, AreResultsOf, IsKeptAt, IsKeptOf, IsLevelsText, WritesLevels}
 
 -- ---- the results of rows
-
-pub no-results : AreResultsOf [] []
-no-results a = (λ m. absurd m, λ x. absurd x.1)
 
 module _ (rows : List ClassRow) (i : ℕ) (row : ClassRow) (at : slice_get rows i ≡ Some row) (old new : List Shows) (are : AreResultsOf (take i rows) old)
     (n : ℕ) (has : HasNumber old new (answers_of row.shows) n) where
@@ -93,17 +90,14 @@ module _ (others : List ClassRow) where
   push-on [] row rest = refl
   push-on (r ∷ only) row rest = ap (λ xs. r ∷ xs) (push-on only row rest)
 
-  pub begins : (rows : List ClassRow) → GoesOn rows 0 []
-  begins rows rest are = are
-
-  pub one-only : (rows : List ClassRow) (i : ℕ) (row : ClassRow) (only items : List ClassRow) → items ≡ only ++ row ∷ [] → slice_get rows i ≡ Some row
+  one-only : (rows : List ClassRow) (i : ℕ) (row : ClassRow) (only items : List ClassRow) → items ≡ only ++ row ∷ [] → slice_get rows i ≡ Some row
       → GoesOn rows i only → (HasResult others row → ⊥) → GoesOn rows (suc i) items
   one-only rows i row only items is at on none rest are =
       subst (λ xs. AreOnly others rows (xs ++ rest)) (sym is)
       (subst (AreOnly others rows) (sym (push-on only row rest))
       (on (row ∷ rest) (subst (λ rs. AreOnly others rs (row ∷ rest)) (sym (drop-at rows i row at)) (inr (none, (rest, refl, are))))))
 
-  pub one-known : (rows : List ClassRow) (i : ℕ) (row : ClassRow) (only : List ClassRow) → slice_get rows i ≡ Some row → GoesOn rows i only
+  one-known : (rows : List ClassRow) (i : ℕ) (row : ClassRow) (only : List ClassRow) → slice_get rows i ≡ Some row → GoesOn rows i only
       → HasResult others row → GoesOn rows (suc i) only
   one-known rows i row only at on has rest are =
       on rest (subst (λ rs. AreOnly others rs rest) (sym (drop-at rows i row at)) (inl (has, are)))
@@ -116,14 +110,14 @@ module _ (others : List ClassRow) where
       nothing [] = refl
       nothing (x ∷ xs) = ap (λ ys. x ∷ ys) (nothing xs)
 
-  -- a row's result is among the others' exactly where these have it
-  pub has-result : (results : List Shows) → AreResultsOf others results → (row : ClassRow) (b : Bool) → (b ≡ true) ↔ Among (answers_of row.shows) results
-      → b ≡ true → HasResult others row
-  has-result results are row b is so = (are (answers_of row.shows)).0 (is.0 so)
-
-  pub has-none : (results : List Shows) → AreResultsOf others results → (row : ClassRow) (b : Bool) → (b ≡ true) ↔ Among (answers_of row.shows) results
-      → b ≡ false → HasResult others row → ⊥
-  has-none results are row b is not has = let bad : true ≡ false = sym (is.1 ((are (answers_of row.shows)).1 has)) ∙ not in cc
+  -- one row more, which is pushed unless its result is known
+  pub one-row : (results : List Shows) → AreResultsOf others results → (rows : List ClassRow) (i : ℕ) (row : ClassRow) (only items : List ClassRow) (b : Bool)
+      → items ≡ cond b only (only ++ row ∷ []) → slice_get rows i ≡ Some row → GoesOn rows i only → (b ≡ true) ↔ Among (answers_of row.shows) results
+      → GoesOn rows (suc i) items
+  one-row results are rows i row only items true is at on known =
+      subst (GoesOn rows (suc i)) (sym is) (one-known rows i row only at on ((are (answers_of row.shows)).0 (known.0 refl)))
+  one-row results are rows i row only items false is at on known =
+      one-only rows i row only items is at on (λ has. let bad : false ≡ true = known.1 ((are (answers_of row.shows)).1 has) in cc)
 
 -- ---- what is found at a level
 

@@ -1,6 +1,6 @@
 //! Orders of a spec in classes at both levels, from the bytes of the spec to the text that is written.
 
-ghost use Rattle.std.specs.Prelude.{◌≡◌, ◌↔◌, ◌<◌, [], IfErr, IfOk, List, None, string_bytes, true};
+ghost use Rattle.std.specs.Prelude.{◌≡◌, ◌↔◌, ◌<◌, ◌++◌, ◌∷◌, [], IfErr, IfOk, List, None, OnOk, cond, string_bytes, true};
 ghost use Rattle.machine_model.specs.Start.{Started, start};
 ghost use Rattle.machine_model.specs.World.{World};
 ghost use Rattle.lock_queues.specs.Reasons.{Among};
@@ -224,7 +224,8 @@ fn results_of(alloc: Global, rows: &[ClassRow]) -> Result<Different, AllocError>
 {
     let mut results = Different::new(alloc);
     for place in 0..rows.len() {
-        let answers = answers_of(alloc, &rows[place].shows)?;
+        let row = &rows[place];
+        let answers = answers_of(alloc, &row.shows)?;
         results.number(&answers)?;
     }
     Ok(results)
@@ -241,11 +242,27 @@ fn only_of(
     let mut only = Vec::new(alloc);
     for place in 0..rows.len() {
         let row = &rows[place];
-        if !has_result(alloc, others, row)? {
-            only.push(copied(alloc, row)?)?;
-        }
+        let is_known = has_result(alloc, others, row)?;
+        push_unless(alloc, is_known, row, &mut only)?;
     }
     Ok(only)
+}
+
+/// Pushes a row, unless its result is known.
+fn push_unless(
+    alloc: Global,
+    is_known: bool,
+    row: &ClassRow,
+    only: &mut Vec<ClassRow>,
+) -> Result<(), AllocError>
+    ensures { OnOk result (only.new.items ≡ cond is_known only.old.items (only.old.items ++ row.now ∷ [])) }
+{
+    if is_known {
+        return Ok(());
+    }
+    let copy = copied(alloc, row)?;
+    only.push(copy)?;
+    Ok(())
 }
 
 fn has_result(alloc: Global, results: &Different, row: &ClassRow) -> Result<bool, AllocError>
