@@ -1,6 +1,6 @@
 """Makes the words of what is asked of the classes of a spec: filters, queries and expectations that fit its tables, from a seed."""
 
-from class_request import ALL_ORDERS, BRIEF, EXPECT, FILTERS, FLAGS, HTML, JSON, LEVEL, MEMORY, NOT_OF_PAGES, OLD_WORDS, QUERY, SAMPLE, SEED, filter_of, opposite
+from class_request import ALL_ORDERS, BOTH_LEVELS, BRIEF, EXPECT, FILTERS, FLAGS, HTML, JSON, LEVEL, MEMORY, NOT_OF_PAGES, OF_LEVELS, OLD_WORDS, QUERY, SAMPLE, SEED, filter_of, opposite
 from compare_shown import is_told_alike
 from generate import BIG, ROW_LOCKS, Maker, Table
 from machine import LEVELS
@@ -201,8 +201,13 @@ class Asker(Maker):
         flags = [flag for flag in FLAGS if self.some(0.2 if flag in (BRIEF, JSON, HTML) else 0.35)]
         return [flag for flag in flags if HTML not in flags or flag not in NOT_OF_PAGES]
 
+    def words_of_levels(self):
+        return [BOTH_LEVELS, *(flag for flag in OF_LEVELS if self.some(0.4)), *[MEMORY, self.one(["500", "1000000"])] * self.some(0.2)]
+
     def words(self):
         """Some words behind the spec's path."""
+        if self.some(0.04):
+            return self.words_of_levels()
         groups = [[flag] for flag in self.flags()] + [[word] for word in self.filters()]
         # Where it is asked for what is not sent, all permutations mostly are.
         if [ALL_ORDERS] not in groups and any("not-sent" in one[0] for one in groups) and self.some(0.9):
@@ -215,6 +220,7 @@ class Asker(Maker):
             groups += self.faults(any("anomaly" in one[0] for one in groups))
         groups += [[MEMORY, self.one(["500", "1000000", "0", "1000001", "many"])]] * self.some(0.1)
         groups += [[LEVEL, self.one(LEVELS * 8 + ["snapshot"])]] * self.one([0] * 40 + [1] * 8 + [2])
+        groups += [[BOTH_LEVELS]] * self.some(0.03)
         if self.some(0.2):
             groups += [[SAMPLE, self.one(["1", "2", "7", "40", "300", "300", "0", "1000001"])]]
             groups += [[SEED, self.one(["0", "1", "7", "18446744073709551615", "18446744073709551616"])]] * self.some(0.5)

@@ -3,10 +3,10 @@
 import json
 from itertools import permutations
 
-from class_pages import ReadObject, ReadText, wrong_beside
-from class_request import ALL_ORDERS, BRIEF, BY_RESULT, FILTERS, FINAL_ROWS, HTML, JSON, OUTCOMES, QUERY, opposite, request_of
+from class_pages import ReadObject, ReadText, wrong_beside, wrong_of_both
+from class_request import ALL_ORDERS, BOTH_LEVELS, BRIEF, BY_RESULT, FILTERS, FINAL_ROWS, HTML, JSON, LEVEL, OUTCOMES, QUERY, opposite, request_of
 from class_values import objects_in
-from classes import ClassPage
+from classes import BOTH, ClassPage
 from facts import ranks_with
 from machine import ABORTED, DEADLOCK, FAULTS, OUT_OF_RANGE
 from moment_laws import lines_told
@@ -231,6 +231,18 @@ def wrong_beside_order(read, row, order):
     told = [lines[: len(lines) - dropped.count(session)] for session, lines in enumerate(told)]
     if row.transcripts != told:
         yield f"JSON has other transcripts than that of the order of rank {row.first_rank}"
+
+
+def wrong_of_levels(asking, path):
+    """What is wrong with the text of both levels beside the JSON of each."""
+    values = [[asking.answer(path, [LEVEL, level, JSON, *more]) for level in BOTH] for more in ([], [BY_RESULT])]
+    if not asking.answer(path, [BOTH_LEVELS])[1]:
+        if all(value[1] for several in values for value in several):
+            yield "both levels are refused, and neither of them is"
+        return
+    sides, results = ([ReadObject(value[1].decode()) for value in several] for several in values)
+    for more in ([], [BRIEF]):
+        yield from wrong_of_both(asking.answer(path, [BOTH_LEVELS, *more])[1].decode(), sides, results)
 
 
 def wrong_pages(asking, path, words, random):

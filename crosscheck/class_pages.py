@@ -15,6 +15,11 @@ HEAD = re.compile(r"(.*): (?:([\d,]+) of )?([\d,]+) (orders?) in ([\d,]+) (class
 # Samples have a column of intervals.
 TOTAL = re.compile(r"  ([WDENSR])  +([\d,]+|-)  +(<?[\d.]+%|-)(?:  +(?:[\d.]+-[\d.]+%|-))?  +([\d,]+|-)  .+")
 ROW = re.compile(r" {0,9}(\d+)  +([\d,]+)  +(<?[\d.]+%)(?:  +[\d.]+-[\d.]+%)?  ([WDENSR.]{4,6})  +(\d+)  (.+)")
+COUNTS = r"([\d,]+) orders? in ([\d,]+) class(?:es)?"
+BOTH_HEAD = re.compile(rf"(.*): {COUNTS} at SERIALIZABLE, {COUNTS} at READ COMMITTED")
+NUMBERS = r"  +([\d,]+|-)  +(<?[\d.]+%|-)  +([\d,]+|-)"
+BOTH_TOTAL = re.compile(rf"  ([WDESR]){NUMBERS}{NUMBERS}  (.+)")
+ONLY = re.compile(r"only at READ COMMITTED: ([\d,]+) of ([\d,]+) results?")
 HOLDS = re.compile(r"expect .*: (?:holds in|no counterexample in) ([\d,]+) (?:of [\d,]+ )?orders?")
 FAILED = re.compile(r"  FAILED in ([\d,]+) of [\d,]+ orders?")
 LEVELS = re.compile(r"locking: strict two-phase locking; isolation levels? \(lines? ([\d, ]+)\) (has|have) no effect")
@@ -391,12 +396,79 @@ def wrong_beside(text, read, is_brief):
         yield "the rows are others than those of the JSON"
 
 
+# ---- both levels
+
+
+class ReadLevels:
+    """The text of both levels as it is read back."""
+
+    def __init__(self, out):
+        self.lines = out.removesuffix("\n").split("\n")
+        self.head = BOTH_HEAD.fullmatch(self.lines[0])
+        self.totals = [one for line in self.lines if (one := BOTH_TOTAL.fullmatch(line))]
+        self.only = next(one for line in self.lines if (one := ONLY.fullmatch(line)))
+        self.rows = [one for line in self.lines if (one := ROW.fullmatch(line))]
+        self.number = number(self.only[1])
+
+    def counts(self):
+        """Of each level how many orders and classes there are."""
+        return [(number(self.head[2]), number(self.head[3])), (number(self.head[4]), number(self.head[5]))]
+
+    def wrong(self, status):
+        """What is wrong with its form."""
+        if status:
+            yield "another status"
+        if "".join(one[1] for one in self.totals) != OF_SENT:
+            yield "other letters have totals, or they stand in another order"
+        if self.rows and [int(row[1]) for row in self.rows] != [*range(1, self.number + 1)]:
+            yield "results are not numbered, or others than so many"
+        names = self.lines[self.lines.index("") + 1]
+        if not names.startswith(f"{'':6}SERIALIZABLE ") or {one.end(4) for one in self.totals} != {names.find("READ COMMITTED") - 2}:
+            yield "the name of a level stands not where its columns begin"
+
+    def kinds(self):
+        """In words to be counted."""
+        yield "a text of both levels"
+        (one, other), letters = self.counts(), {row[1]: row for row in self.totals}
+        found = {
+            "other orders at each level": one[0] != other[0],
+            "no result that READ COMMITTED alone has": self.number == 0,
+            "an anomaly at READ COMMITTED alone": letters["R"][2] == "0" != letters["R"][5],
+            "an anomaly at both": "0" not in (letters["R"][2], letters["R"][5]) and letters["R"][2] != "-",
+            "R is not known": letters["R"][2] == "-",
+            "another level in the file": ASKED_LEVEL.fullmatch(self.lines[1]) is not None,
+            "brief": not self.rows and self.number > 0,
+        }
+        yield from (f"both levels: {word}" for word, is_so in found.items() if is_so)
+
+
+def wrong_of_both(text, sides, results):
+    """What a text of both levels tells otherwise than the JSON of each level, by classes and by results."""
+    read = ReadLevels(text)
+    if read.counts() != [(side.orders, len(side.rows)) for side in sides]:
+        yield "the head has other numbers than the JSON of each level"
+    for one in read.totals:
+        for side, cells in zip(sides, (one.groups()[1:4], one.groups()[4:7]), strict=True):
+            total = side.totals[one[1]]
+            if cells != (("-", "-", "-") if total is None else (f"{total[0]:,}", share_of(total[0], side.asked), f"{total[1]:,}")):
+                yield f"the total of {one[1]} is another one than that of the JSON of its level"
+    known = {row.result() for row in results[0].rows}
+    only = [row for row in results[1].rows if row.result() not in known]
+    if (read.number, number(read.only[2])) != (len(only), len(results[1].rows)):
+        yield "other results are those of READ COMMITTED alone"
+    rows = [(f"{row.orders:,}", share_of(row.orders, results[1].asked), row.shown, f"{row.first_rank}") for row in only]
+    if read.rows and [one.groups()[1:5] for one in read.rows] != rows:
+        yield "the rows are not those that the JSON of READ COMMITTED alone has"
+
+
 # ---- whatever it is
 
 
 def read_back(out):
-    """What `isofarm classes` printed: a text, an object, or the object of a page that a browser opens."""
+    """What `isofarm classes` printed: a text, that of both levels, an object, or the object of a page that a browser opens."""
     text = objects_in(out.decode())[0] if out.startswith(DOCTYPE) else out.decode()
+    if BOTH_HEAD.match(text):
+        return ReadLevels(text)
     return (ReadObject if text.startswith(FRONT.decode()) else ReadText)(text)
 
 

@@ -16,7 +16,9 @@ FLAGS = [ALL_ORDERS, BY_RESULT, FINAL_ROWS, OUTCOMES, BRIEF, JSON, HTML] = [
 RANKS = "--ranks"
 BOOK_FLAGS = [RANKS, OUTCOMES, BRIEF, JSON]
 QUERY, EXPECT, PROGRESS, MEMORY, SAMPLE, SEED = "--query", "--expect", "--progress", "--memory", "--sample", "--seed"
-LEVEL = "--level"
+LEVEL, BOTH_LEVELS = "--level", "--levels"
+# What goes with both levels.
+OF_LEVELS = [BRIEF, OUTCOMES, FINAL_ROWS]
 MOST_MEMORY, MOST_SAMPLE, MOST_SEED = 1_000_000, 1_000_000, 2**64 - 1
 # What does not go with a page.
 NOT_OF_PAGES = [BRIEF, JSON]
@@ -79,6 +81,7 @@ class Request:
     """What is asked of classes. Queries and expectations stand in the order of the words. Of a sample its orders and its seed."""
 
     level: str | None = None
+    both_levels: bool = False
     sample: int | None = None
     seed: int = 1
     filters: list = field(default_factory=list)
@@ -148,6 +151,13 @@ def level_word(word):
     return word
 
 
+def check_levels(request):
+    """Both levels go with what is told of results alone."""
+    others = [request.level, request.sample, *request.filters, *request.queries, *request.expectations, *request.flags.difference(OF_LEVELS)]
+    if request.both_levels and any(one is not None for one in others):
+        raise NoWords(f"{BOTH_LEVELS} goes with no level, no other orders and no other form")
+
+
 def check_sample(request, words):
     """Takes a sample's orders to those that clients can send, unless all are wanted."""
     if request.sample is None:
@@ -175,6 +185,8 @@ def request_of(words):
             request.expectations.append(take_values(left))
         elif word == LEVEL and left and request.level is None:
             request.level = level_word(left.pop(0))
+        elif word == BOTH_LEVELS and not request.both_levels:
+            request.both_levels = True
         elif word == MEMORY and left:
             number_in(left.pop(0), 1, MOST_MEMORY)
         elif word == SAMPLE and left and request.sample is None:
@@ -187,5 +199,6 @@ def request_of(words):
         raise NoWords(f"--not-sent goes with {ALL_ORDERS} alone")
     if request.has(HTML) and any(map(request.has, NOT_OF_PAGES)):
         raise NoWords(f"{HTML} goes with no other form")
+    check_levels(request)
     check_sample(request, words)
     return request

@@ -8,14 +8,15 @@ lines one by one. The text is that of a pipe or a file: a class has one line, ho
 
 import sys
 from collections import Counter
-from dataclasses import dataclass
+from dataclasses import dataclass, replace
 from functools import cached_property
 from pathlib import Path
 
-from class_request import ALL_ORDERS, BRIEF, BY_RESULT, FINAL_ROWS, HTML, JSON, OUTCOMES, NotAsked, NoWords, request_of
+from class_request import ALL_ORDERS, BRIEF, BY_RESULT, FINAL_ROWS, HTML, JSON, OUTCOMES, NotAsked, NoWords, Request, request_of
 from class_values import BY_ANSWERS, BY_SHOWS, classes_json, page_html
 from levels import Levels, bind_at, levels_of
-from machine import LINES, outcome_lines
+from levels import spelled as spelled_level
+from machine import LINES, READ_COMMITTED, SERIALIZABLE, outcome_lines
 from moments import shown
 from orders import spelled
 from queries import NoQuery, query_of, rows_in, seen
@@ -35,6 +36,8 @@ WORDS = {
 }
 NOT_KNOWN, NOT_KNOWN_OF_SAMPLES = "anomaly: not known for permutation lines", "anomaly: not known for samples"
 INTERVAL = "95% interval"
+BOTH = [SERIALIZABLE, READ_COMMITTED]
+LEVEL_NAMES = [*map(spelled_level, BOTH)]
 OF_SENT, OF_ALL, OF_RESULTS = "WDESR", "WDENSR", "DESR"
 MEANINGS = {":": "waits", "!": "fails", "-": "is not sent"}
 OF_NAME = 24
@@ -312,6 +315,46 @@ class ClassPage:
         return "\n".join(text for text in texts if text)
 
 
+class BothLevels:
+    """What is asked of the classes of a spec at both levels, and its text."""
+
+    def __init__(self, asking, path, request):
+        self.path, by_result = path, replace(request, flags=request.flags | {BY_RESULT})
+        self.sides = [asking.at(level).page(path, Request()) for level in BOTH]
+        others, self.results = (asking.at(level).page(path, by_result) for level in BOTH)
+        known = {one.ending.result for one in others.rows}
+        self.number_of_results = len(self.results.rows)
+        self.results.rows = [one for one in self.results.rows if one.ending.result not in known]
+
+    def head_lines(self):
+        counts = [f"{number_of(side.orders, 'order', 'orders')} in {number_of(len(side.rows), side.one, side.more)}" for side in self.sides]
+        yield f"{visible(self.path)}: " + ", ".join(f"{told} at {name}" for told, name in zip(counts, LEVEL_NAMES, strict=True))
+        for side in self.sides:
+            yield from side.levels.head_lines() if side.levels.other_lines else ()
+
+    def total_cells(self, letter):
+        """The cells of a letter: its numbers at each level, and what it means."""
+        (front, *first, meaning), (_front, *second, _meaning) = (side.total_cells(letter) for side in self.sides)
+        return [front, *first, *second, meaning]
+
+    def total_lines(self):
+        """The totals of each level beneath its name, which begins where its columns do."""
+        columns = ["orders", "share", "classes"]
+        rows = [["", *columns, *columns, ""], *map(self.total_cells, self.sides[0].letters)]
+        first = 2 * len(columns) + sum(max(map(len, column)) for column in [*zip(*rows, strict=True)][1 : len(columns) + 1])
+        yield f"{'':6}{LEVEL_NAMES[0]:{first}}{LEVEL_NAMES[1]}"
+        yield from table_lines(rows, {*range(1, len(rows[0]) - 1)})
+
+    def result_lines(self):
+        yield f"only at READ COMMITTED: {number(len(self.results.rows))} of {number_of(self.number_of_results, 'result', 'results')}"
+
+    def text(self):
+        parts = [self.head_lines(), self.total_lines(), self.result_lines()]
+        parts += [] if self.results.request.has(BRIEF) else [self.results.class_lines(), self.results.legend_lines()]
+        texts = ["".join(f"{line}\n" for line in part) for part in parts]
+        return "\n".join(text for text in texts if text)
+
+
 def rows_text(rows):
     return ", ".join(rows) or "no row"
 
@@ -365,6 +408,8 @@ class Asking:
         """The exit status, and what stands on the two outputs."""
         try:
             request = request_of(words)
+            if request.both_levels:
+                return 0, BothLevels(self, path, request).text().encode(), b""
             asking = self.at(request.level)
             page = asking.page(path, request)
         except NoWords as wrong:

@@ -3,7 +3,7 @@
 usage: python3 crosscheck/compare_classes.py PROGRAM|--alone KIND FIRST_SEED SEEDS
 
 Of each spec are asked for: all classes and results, brief or not, of the orders that clients can send and of all permutations, as text, as JSON and
-as a page that a browser opens, and then some mix of filters, flags, queries and expectations (`class_asking.py`). By its seed half of the specs are asked for
+as a page that a browser opens, both levels side by side, and then some mix of filters, flags, queries and expectations (`class_asking.py`). By its seed half of the specs are asked for
 at no level, a third at READ COMMITTED and the others at SERIALIZABLE. What the command line refuses has
 to have the same status, and all else the same bytes. Of a spec with many orders some are made permutation lines. Before them come the pages of
 `classes/`, which were worked out by hand. With `--alone` no program is run: orders are counted by layers of states and one by one, and classes, texts
@@ -23,9 +23,9 @@ from tempfile import TemporaryDirectory
 
 from class_asking import Asker
 from class_laws import MOST_ONE_BY_ONE, MOST_SESSIONS, wrong_anomalies, wrong_filters, wrong_first_orders, wrong_numbers, wrong_orders, wrong_pages
-from class_laws import wrong_queries, wrong_ways
+from class_laws import wrong_of_levels, wrong_queries, wrong_ways
 from class_pages import kinds_of, read_back
-from class_request import ALL_ORDERS, BRIEF, BY_RESULT, HTML, JSON, LEVEL, request_of
+from class_request import ALL_ORDERS, BOTH_LEVELS, BRIEF, BY_RESULT, FINAL_ROWS, HTML, JSON, LEVEL, OUTCOMES, request_of
 from classes import Asking, share, table_lines
 from compare import Comparison, ended, fault_of, told
 from compare_shown import ALL, ALL_KINDS, ALONE, FILES, bound, specs_of
@@ -37,6 +37,7 @@ from refusal import Refusal
 WORKED = Path(__file__).resolve().parent / "classes"
 MOST_ORDERS, MOST_LINES, NEAR_RANKS = 300_000, 60, 40
 TOLD = [[], [BY_RESULT], [ALL_ORDERS], [ALL_ORDERS, BY_RESULT], [BRIEF], [JSON], [JSON, ALL_ORDERS], [JSON, BY_RESULT, BRIEF], [HTML]]
+TOLD += [[BOTH_LEVELS], [BOTH_LEVELS, FINAL_ROWS, OUTCOMES]]
 # So many runs of a spec ask for something by filters, queries and expectations.
 RUNS_ASKED = 8
 # At which level a spec is asked for by a word.
@@ -126,7 +127,7 @@ def level_of(seed):
 
 def at_level(words, level):
     """The words with this level, where they have none."""
-    return words if level is None or LEVEL in words else [*words, LEVEL, level]
+    return words if level is None or {LEVEL, BOTH_LEVELS}.intersection(words) else [*words, LEVEL, level]
 
 
 def requests(asking, seed, level=None):
@@ -177,6 +178,7 @@ ASKED = {
         1,
     ),
     "skew.both": ("--deadlock=a --deadlock=b --expect 'SELECT count(*) FROM doctor' 2", 0),
+    "skew.levels": (BOTH_LEVELS, 0),
     "skew.queries": (
         """--deadlock=b --query ' ;SELECT count(*) FROM doctor; -- all' --query 'SELECT name FROM doctor\nWHERE on_call = 1'""",
         0,
@@ -197,6 +199,7 @@ REFUSED = [
     ("skew", """--deadlock='say "a\\"'""", r'skew.spec: no session "say \"a\\\""'),
     ("levels", "--level serializable", "levels.spec: REPEATABLE READ is not modelled (line 6)"),
     ("levels", "--level read-committed --deadlock=e --query ''", "levels.spec: REPEATABLE READ is not modelled (line 6)"),
+    ("levels", BOTH_LEVELS, "levels.spec: REPEATABLE READ is not modelled (line 6)"),
     ("lines", "--no-anomaly", "lines.spec: no serial orders"),
     ("lines", "--by-result --anomaly --waits", "lines.spec: no serial orders"),
     # Queries that do not read, with the place of what cannot stand there, or of their end.
@@ -249,6 +252,7 @@ REFUSED = [
 NO_WORDS = ["--answers", "--brief --look 'SELECT v FROM t'", "--left", "--no-serial", "--serial", "--all-orders --unsent", "--no-unsent --all-orders"]
 NO_WORDS += ["--not-sent", "--json --no-not-sent", "--ranks", "--stuck=a", "--expect 'SELECT v FROM t'", "--json --json", "--html --json", "--brief --html"]
 NO_WORDS += [LEVEL, *(f"{LEVEL} {word}" for word in ("snapshot", "SERIALIZABLE", "repeatable-read", "''", "serializable --level serializable"))]
+NO_WORDS += [f"{BOTH_LEVELS} {word}" for word in (BOTH_LEVELS, JSON, HTML, ALL_ORDERS, BY_RESULT, "--waits", "--sample 7", "--level serializable")]
 NO_WORDS += [f"--memory {number}" for number in ("0", "1000001", "-1", "1e3", "''")]
 # Words, and the front of the first line that `three.spec` has with them. A script of another hand counted these over what a book says of each order.
 COUNTED = {
@@ -272,10 +276,11 @@ COLUMNS = [
 
 
 def brief_text(text):
-    """The parts of a text up to the letters: the head, what is expected, and the totals."""
+    """The parts of a text up to the letters: the head, what is expected, and the totals; of both levels also how many results one alone has."""
     parts = text.split(b"\n\n")
     totals = next(place for place, part in enumerate(parts) if part.startswith(b" " * 5))
-    return b"\n\n".join(part.rstrip(b"\n") for part in parts[: totals + 1]) + b"\n"
+    end = totals + 1 + any(part.startswith(b"only at ") for part in parts[totals + 1 : totals + 2])
+    return b"\n\n".join(part.rstrip(b"\n") for part in parts[:end]) + b"\n"
 
 
 def brief_json(text):
@@ -298,7 +303,7 @@ def worked():
         if BRIEF not in words:
             yield path, [*words, BRIEF], (status, (brief_json if JSON in words else brief_text)(out), b"")
     for name, words, line in REFUSED:
-        for more in ([], [JSON]):
+        for more in ([], [JSON] * (BOTH_LEVELS not in words)):
             yield WORKED / f"{name}.spec", [*split(words), *more], (3, b"", f"isofarm: {line}\n".encode())
     for words in NO_WORDS:
         yield WORKED / "stuck.spec", split(words), (2, b"", b"")
@@ -377,8 +382,9 @@ def wrong_told(asking, seed, counts):
         status, out, error = asking.answer(path, words)
         counts.update(kinds_of(out) if out else ["status 2"] if status == 2 else [f"refused: {fault_of(error)}"])
         wrong = [*read_back(out).wrong(status)] if out else []
-        wrong += wrong_pages(asking.at(request_of(words).level), path, words, random) if status != 2 else []
+        wrong += wrong_pages(asking.at(request_of(words).level), path, words, random) if status != 2 and BOTH_LEVELS not in words else []
         yield from (f"{' '.join(words)}: {one}" for one in wrong)
+    yield from wrong_of_levels(asking, path)
 
 
 def wrong_alone(asking, seed, counts):

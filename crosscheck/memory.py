@@ -48,7 +48,8 @@ OF_BOOKS += ["classes lost_update.spec --html", "classes deadlock.spec --html --
 OF_BOOKS += ["classes --book all.book", "classes --book high.book low.book --ranks --outcomes", "classes --book low.book --json --ranks"]
 OF_BOOKS += ["classes --book all.book clash.book", "classes --book all.book wrong.spec"]
 OF_BOOKS += ["show lost_update.spec 1 --level read-committed", "classes lost_update.spec --level read-committed", "classes wrong.spec --level serializable"]
-OF_BOOKS += ["check levels.spec", "classes levels.spec", "show levels.spec 0 --level serializable"]
+OF_BOOKS += ["classes lost_update.spec --levels", "classes write_skew.spec --levels --final-rows --progress", "classes wrong.spec --levels"]
+OF_BOOKS += ["check levels.spec", "classes levels.spec", "classes levels.spec --levels", "show levels.spec 0 --level serializable"]
 OF_BOOKS += ["test", "test all.book --workers 0", "test - -"]
 
 
@@ -63,7 +64,7 @@ def make_books(folder):
     """Puts into the folder what the commands over books find there."""
     Path(folder, "wrong.spec").write_bytes(WRONG)
     Path(folder, "levels.spec").write_bytes(LEVELS)
-    for name in ("deadlock.spec", "lost_update.spec"):
+    for name in ("deadlock.spec", "lost_update.spec", "write_skew.spec"):
         Path(folder, name).write_bytes((TOP / "examples" / name).read_bytes())
     for name, words in BOOKS.items():
         _status, out, _error = told(PROGRAM, words.split(), folder, {})

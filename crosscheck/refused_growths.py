@@ -48,6 +48,7 @@ TESTS = [
     "no_memory::an_order_is_shown_whole_unless_memory_runs_out",
     "no_memory::answers_are_told_whole_unless_memory_runs_out",
     "no_memory::books_are_told_whole_unless_memory_runs_out",
+    "no_memory::both_levels_are_told_whole_unless_memory_runs_out",
     "no_memory::classes_are_told_whole_unless_memory_runs_out",
     "no_memory::classes_of_books_are_told_whole_unless_memory_runs_out",
     "no_memory::usage_is_told_unless_memory_runs_out",

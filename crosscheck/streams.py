@@ -65,7 +65,7 @@ FILES = {
 }
 GOOD = ["one first.spec 0", "check first.spec", "count first.spec", "rank first.spec a1 b1", "order first.spec 1", "show first.spec 1", "run first.spec 0 2", "join all.book", "report all.book"]
 GOOD += ["show first.spec a1 b1 --json", "classes first.spec", "classes first.spec --by-result --brief", "classes first.spec --waits --anomaly --outcomes --final-rows", "classes first.spec --json", "classes first.spec --html", "classes --by-result --html first.spec", "classes first.spec --all-orders --not-sent --memory 500", "holds all.book first.spec 0 2", "run first.spec 0 2 --workers 16", "audit all.book", "judge all.book all.book", "judge all.book all.book --show"]
-GOOD += ["show first.spec 1 --level read-committed", "classes --level serializable first.spec", "test first.spec --level read-committed"]
+GOOD += ["classes first.spec --levels", "classes --levels --brief first.spec", "show first.spec 1 --level read-committed", "classes --level serializable first.spec", "test first.spec --level read-committed"]
 GOOD += ["run first.spec", "missing one.book", "missing one.book --lines"]
 GOOD += ["test first.spec", "test first.spec many.spec --workers 16", "test --update first.spec", "test --junit report.xml first.spec folder.accepted"]
 GOOD += ["classes --book all.book", "classes --book one.book all.book --json --ranks", "classes --outcomes --book clash.book --ranks"]
@@ -86,6 +86,8 @@ NO_COMMANDS += ["classes first.spec --not-sent", "classes first.spec --no-not-se
 NO_COMMANDS += [f"{line} --level{level}" for line in ("show first.spec 0", "classes first.spec", "test first.spec") for level in ("", " snapshot", " SERIALIZABLE")]
 NO_COMMANDS += [f"{line}{' --level serializable' * 2}" for line in ("show first.spec 0", "classes first.spec", "test first.spec")]
 NO_COMMANDS += [f"{line} --level serializable" for line in ("one first.spec 0", "check first.spec", "count first.spec", "order first.spec 0", "run first.spec")]
+NO_COMMANDS += [f"classes first.spec --levels {flag}" for flag in ("--levels", "--level serializable", "--json", "--html", "--all-orders", "--by-result", "--waits", "--query SELECT", "--sample 7")]
+NO_COMMANDS += ["classes --book all.book --levels", "show first.spec 0 --levels"]
 NO_COMMANDS += [f"{line} all.book --level serializable" for line in ("classes --book", "join", "missing", "report", "audit", "judge all.book")]
 NO_COMMANDS += ["classes first.spec --query", "classes first.spec --expect", "classes first.spec --filter", "classes first.spec --expect SELECT"]
 NO_COMMANDS += ["classes first.spec --expect SELECT --brief", "classes first.spec --expect SELECT -x"]

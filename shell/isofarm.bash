@@ -13,7 +13,7 @@ _isofarm() {
     rank) words="-h --help" ;;
     order) words="-h --help" ;;
     show) words="--json --level -h --help" ;;
-    classes) words="--all-orders --level --book --waits --no-waits --deadlock --no-deadlock --error --no-error --stuck --no-stuck --anomaly --no-anomaly --not-sent --no-not-sent --by-result --expect --query --final-rows --outcomes --ranks --brief --json --html --progress --memory --sample --seed -h --help" ;;
+    classes) words="--all-orders --level --levels --book --waits --no-waits --deadlock --no-deadlock --error --no-error --stuck --no-stuck --anomaly --no-anomaly --not-sent --no-not-sent --by-result --expect --query --final-rows --outcomes --ranks --brief --json --html --progress --memory --sample --seed -h --help" ;;
     run) words="--every --workers --progress -h --help" ;;
     join) words="-h --help" ;;
     missing) words="--lines -h --help" ;;

@@ -27,6 +27,7 @@ complete -c isofarm -n '__fish_seen_subcommand_from show' -l level -x -d 'Isolat
 complete -c isofarm -n '__fish_seen_subcommand_from show' -s h -l help -d 'Print help'
 complete -c isofarm -n '__fish_seen_subcommand_from classes' -l all-orders -d 'Count every permutation of the steps'
 complete -c isofarm -n '__fish_seen_subcommand_from classes' -l level -x -d 'Isolation level of transactions that name none [possible values: read-committed, serializable]'
+complete -c isofarm -n '__fish_seen_subcommand_from classes' -l levels -d 'Print both isolation levels side by side'
 complete -c isofarm -n '__fish_seen_subcommand_from classes' -l book -r -F -d 'Group the outcomes in books instead of a spec'
 complete -c isofarm -n '__fish_seen_subcommand_from classes' -l waits -d 'Only orders in which a session waits'
 complete -c isofarm -n '__fish_seen_subcommand_from classes' -l no-waits -d 'Only orders in which no session waits'

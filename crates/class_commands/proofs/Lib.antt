@@ -2,3 +2,4 @@ mod ClassLemmas
 mod BookLemmas
 mod OpenedLemmas
 mod SampleLemmas
+mod LevelLemmas

@@ -2,6 +2,8 @@ pub mod Written
 pub mod Opened
 pub mod Classing
 pub mod Parts
+pub mod Levels
+pub mod LevelParts
 pub mod OpenedParts
 pub mod Booking
 pub mod BookParts

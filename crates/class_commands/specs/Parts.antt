@@ -3,6 +3,7 @@ use Rattle.std.specs.Prelude.{◌≡◌, ℕ, cond, List, Option, Result, Ok, Er
 use Rattle.std.specs.List.{list_all}
 use Rattle.binding_model.specs.declared.tables.Table.{Table}
 use Rattle.bound_specs.specs.Spec.{SpecFile}
+use Rattle.bound_statements.specs.declared.statement.Level.{Level as AtLevel}
 use Rattle.machine_model.specs.Start.{start}
 use Rattle.session_machine.specs.Running.{IsNotRunBy}
 use Rattle.session_steps.specs.Refused.{IsRefusedBy}
@@ -24,10 +25,25 @@ use Rattle.asked_classes.specs.declared.asking.AskedClasses.{AskedClasses}
 use Rattle.book_commands.specs.declared.finding.Finding.{Finding}
 use Rattle.book_commands.specs.declared.finding.Finding.TheVariants.{Good, Bad}
 use Rattle.class_commands.specs.declared.asking.AskedSpec.{AskedSpec}
+use Rattle.class_commands.specs.declared.asking.ReadSpec.{ReadSpec}
 use Rattle.class_commands.specs.declared.classing.ClassesFault.{ClassesFault}
 use Rattle.class_commands.specs.declared.classing.ClassesFault.TheVariants.{Spec, Level, Asked, Run, TooMany, NoMemory, Write}
 use Rattle.class_commands.specs.Opened.{IsWrittenAs}
 use Rattle.class_commands.specs.Classing.{MayHaveManyStates, IsNotAsked, page_of}
+
+-- the spec file that the bytes are at the level of a word, with the tables that its main setups declare, and its levels
+pub record IsReadSpec (bytes : List ℕ) (word : Option AtLevel) (r : ReadSpec) : Type 0 where
+  pub is_file : IsLevelledSpec bytes word r.spec
+  pub text : r.spec.text ≡ bytes
+  pub declares : Declares r.spec.text r.spec r.tables.items
+  pub are_levels : AreLevels r.spec.text r.spec r.levels
+
+-- the bytes are no spec file; what it says of levels is wrong; or memory ran out
+abbrev pub IsNotReadSpec : List ℕ → Option AtLevel → ClassesFault → Type 0
+IsNotReadSpec bytes word (Spec fault) = IsNoSpec bytes fault
+IsNotReadSpec bytes word (Level fault) = IsWrongLevel bytes word fault
+IsNotReadSpec bytes word NoMemory = Unit {0}
+IsNotReadSpec bytes word fault = ⊥
 
 -- the spec file that the bytes are at the level that is wanted, with the tables that its main setups declare, its levels, and what is asked of it
 pub record IsAskedSpec (bytes : List ℕ) (wanted : WantedClasses) (a : AskedSpec) : Type 0 where

@@ -9,6 +9,7 @@ ghost use Rattle.spec_texts.specs.Texts.{Declares};
 ghost use Rattle.transcripts.specs.Counted.{failures_of};
 ghost use Rattle.class_rows.specs.Pages.{IsClassed};
 ghost use Rattle.class_rows.specs.Telling.{AreFound, IsSerialOf};
+ghost use Rattle.spec_classes.specs.Classes.{AreClassesOf};
 ghost use Rattle.wanted_classes.specs.declared.wanted.WantedSample.{WantedSample as Sample};
 ghost use Rattle.class_commands.specs.Classing.{AreCounted, IsClassesRun, IsFinding, grouping, kind_by};
 ghost use Rattle.class_commands.specs.Opened.{HasOrders};
@@ -146,7 +147,7 @@ fn found_of<'a, V: Watch>(
 }
 
 /// Why classes are not written whose orders were not counted.
-fn fault_of<'a>(error: StatesError) -> ClassesFault<'a>
+pub(crate) fn fault_of<'a>(error: StatesError) -> ClassesFault<'a>
     ensures { (sample : Option Sample) (file : SpecFile) → IsNotCounted sample file error → IsNotFound sample file result }
 {
     match error {
@@ -178,7 +179,7 @@ fn kind_by(all_orders: bool) -> Kind
 }
 
 /// So many megabytes in bytes.
-fn room_of(megabytes: u64) -> usize {
+pub(crate) fn room_of(megabytes: u64) -> usize {
     (megabytes as usize).saturating_mul(1_000_000)
 }
 
@@ -211,6 +212,24 @@ fn found_in<V: Watch>(
     ensures starts { IfOk result (λ _. (w : World) × (start explored.entry.spec.now.run ≡ Started w)) }
     ensures refused { IfErr result (IsNotCounted None explored.entry.spec.now) }
 {
+    let (classes, serial) = match found_orders(alloc, explored, watch) {
+        Ok(found) => found,
+        Err(error) => return Err(error),
+    };
+    told_with(alloc, classes.as_slice(), serial.as_ref(), asked)
+}
+
+/// The classes of the orders of a spec, and what its serial orders answer.
+pub(crate) fn found_orders<V: Watch>(
+    alloc: Global,
+    explored: Explored<'_>,
+    watch: &V,
+) -> Result<(Vec<OrderClass>, Option<Different>), StatesError>
+    ensures classes { IfOk result (λ x. AreClassesOf explored.entry.kind explored.entry.tables.now explored.entry.spec.now.run x.0.items) }
+    ensures serial { IfOk result (λ x. IsSerialOf explored.entry.tables.now explored.entry.spec.now.run x.1) }
+    ensures starts { IfOk result (λ _. (w : World) × (start explored.entry.spec.now.run ≡ Started w)) }
+    ensures refused { IfErr result (IsNotCounted None explored.entry.spec.now) }
+{
     let Explored {
         spec,
         tables,
@@ -221,15 +240,14 @@ fn found_in<V: Watch>(
         Ok(classes) => classes,
         Err(error) => return Err(error),
     };
-    let serial = match serial_of(alloc, spec, tables, room) {
-        Ok(serial) => serial,
-        Err(error) => return Err(error),
-    };
-    told_with(alloc, classes.as_slice(), serial.as_ref(), asked)
+    match serial_of(alloc, spec, tables, room) {
+        Ok(serial) => Ok((classes, serial)),
+        Err(error) => Err(error),
+    }
 }
 
 /// What is told of classes, beside what the serial orders of their spec answer.
-fn told_with<'a>(
+pub(crate) fn told_with<'a>(
     alloc: Global,
     classes: &'a [OrderClass],
     serial: Option<&'a Different>,

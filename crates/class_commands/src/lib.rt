@@ -5,6 +5,7 @@ mod asking;
 mod booking;
 mod classing;
 mod filters;
+mod levels;
 mod opened;
 mod progress;
 mod sampling;
@@ -13,5 +14,6 @@ mod written;
 
 pub use booking::{BookClassesFault, book_classes};
 pub use classing::{ClassesFault, classes, classes_told};
+pub use levels::{both_levels, both_levels_told};
 pub use opened::MAX_SHOWN;
 pub use progress::Telling;

@@ -6,6 +6,7 @@ use Rattle.std.specs.Char.{encode_utf8}
 use Rattle.lock_modes.specs.declared.value.Value.{Value}
 use Rattle.lock_modes.specs.declared.value.Value.TheVariants.{Int, Text}
 use Rattle.binding_model.specs.declared.tables.Table.{Table}
+use Rattle.bound_statements.specs.declared.statement.Level.{Level}
 use Rattle.bound_statements.specs.declared.statement.Level.TheVariants.{Serializable, Committed}
 use Rattle.events.specs.declared.event.Fault.TheVariants.{Deadlock, Duplicate, OutOfRange}
 use Rattle.events.specs.declared.event.Event.{Event}
@@ -13,11 +14,14 @@ use Rattle.events.specs.declared.event.Event.TheVariants as event
 use Rattle.order_classes.specs.declared.rows.ClassRow.{ClassRow}
 use Rattle.order_classes.specs.declared.rows.Letters.{Letters}
 use Rattle.order_classes.specs.declared.rows.Total.{Total}
+use Rattle.order_classes.specs.declared.rows.Totals.{Totals}
 use Rattle.order_classes.specs.declared.shows.Rest.{Rest}
 use Rattle.order_classes.specs.declared.shows.Rest.TheVariants.{HasEnded, IsOpen, HasFailed, StillWaits}
+use Rattle.shown_texts.specs.Pages.{line_bytes}
 use Rattle.class_texts.specs.Beneath.{left_lines, margin, seen_text}
 use Rattle.class_texts.specs.Counted.{number_text}
 use Rattle.class_texts.specs.Expected.{expected_lines, meets}
+use Rattle.class_texts.specs.Levels.{Side, head_lines as lines_of_levels, levels_bytes, totals_lines as totals_of_levels}
 use Rattle.class_texts.specs.Orders.{step_word, step_words}
 use Rattle.class_texts.specs.Pages.{Page, head_lines as lines_of_head, interval_text, missing_text, page_bytes, share_text}
 use Rattle.class_texts.specs.Records.{head_lines as lines_of_record, level_line}
@@ -222,6 +226,79 @@ serializable_but_for_one : lines_of_head (record without_blocks { level = Some S
     ≡ codes "lost_update_without_blocks.spec: 6 orders in 3 classes" ∷ codes "isolation level: SERIALIZABLE; READ COMMITTED (line 7)" ∷ []
 unfolding chars digits
 serializable_but_for_one = refl
+
+-- ---- both levels
+
+abbrev of_six : Level → Totals → Side
+of_six level totals = record { level = Some level; other_lines = []; totals = totals }
+
+abbrev at_serializable : Side
+at_serializable =
+    of_six Serializable (record {
+      all = total 6 4;
+      waits = total 4 2;
+      deadlock = total 4 2;
+      error = total 0 0;
+      unsent = total 2 1;
+      stuck = total 0 0;
+      not_serial = Some (total 0 0);
+    })
+
+abbrev at_committed : Side
+at_committed = of_six Committed without_blocks.totals
+
+-- the results of READ COMMITTED that SERIALIZABLE has not
+abbrev only_committed : Page
+only_committed = record without_blocks { path = codes "write_skew.spec"; by = Answers; rows = row 1 4 not_serial (0 ∷ 2 ∷ 1 ∷ 3 ∷ []) two_each ∷ [] }
+
+both_levels : levels_bytes at_serializable at_committed 3 only_committed ≡ flat_map line (
+    codes "write_skew.spec: 6 orders in 4 classes at SERIALIZABLE, 6 orders in 3 classes at READ COMMITTED"
+    ∷ codes ""
+    ∷ codes "      SERIALIZABLE            READ COMMITTED"
+    ∷ codes "      orders  share  classes  orders  share  classes"
+    ∷ codes "  W        4  66.7%        2       0   0.0%        0  a session waits"
+    ∷ codes "  D        4  66.7%        2       0   0.0%        0  a session is the victim of a deadlock"
+    ∷ codes "  E        0   0.0%        0       0   0.0%        0  another error"
+    ∷ codes "  S        0   0.0%        0       0   0.0%        0  a session waits for ever"
+    ∷ codes "  R        0   0.0%        0       4  66.7%        1  anomaly: no error, yet no serial order gives this result"
+    ∷ codes ""
+    ∷ codes "only at READ COMMITTED: 1 of 3 results"
+    ∷ codes ""
+    ∷ codes "result  orders  share  DESR  rank  first order"
+    ∷ codes "     1       4  66.7%  ...R     1  a1 b1 a2 b2" ∷ [])
+unfolding chars digits encode_utf8 margin
+both_levels = refl
+
+-- lines of the file name a level of their own
+heads_of_levels : lines_of_levels (codes "x") (record at_serializable { other_lines = 9 ∷ 12 ∷ [] }) (record at_committed { other_lines = 7 ∷ [] })
+    ≡ codes "x: 6 orders in 4 classes at SERIALIZABLE, 6 orders in 3 classes at READ COMMITTED" ∷ codes "isolation level: SERIALIZABLE; READ COMMITTED (lines 9, 12)"
+    ∷ codes "isolation level: READ COMMITTED; SERIALIZABLE (line 7)" ∷ []
+unfolding chars digits
+heads_of_levels = refl
+
+-- each level has columns of its own widths, and of permutation lines R is not known
+abbrev of_lines : Level → Total → Side
+of_lines level all =
+    of_six level (record {
+      all = all;
+      waits = all;
+      deadlock = total 0 0;
+      error = total 0 0;
+      unsent = total 0 0;
+      stuck = total 0 0;
+      not_serial = None;
+    })
+
+totals_of_lines : flat_map line_bytes (totals_of_levels (of_lines Serializable (total 1204118 12)) (of_lines Committed (total 3 1))) ≡ flat_map line (
+    codes "      SERIALIZABLE                READ COMMITTED"
+    ∷ codes "         orders   share  classes  orders   share  classes"
+    ∷ codes "  W   1,204,118  100.0%       12       3  100.0%        1  a session waits"
+    ∷ codes "  D           0    0.0%        0       0    0.0%        0  a session is the victim of a deadlock"
+    ∷ codes "  E           0    0.0%        0       0    0.0%        0  another error"
+    ∷ codes "  S           0    0.0%        0       0    0.0%        0  a session waits for ever"
+    ∷ codes "  R           -       -        -       -       -        -  anomaly: not known for permutation lines" ∷ [])
+unfolding chars digits encode_utf8
+totals_of_lines = refl
 
 -- ---- the heads of records
 

@@ -7,5 +7,6 @@ pub mod Beneath
 pub mod Expected
 pub mod Intervals
 pub mod Pages
+pub mod Levels
 pub mod Records
 pub mod Laws

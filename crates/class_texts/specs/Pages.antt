@@ -115,10 +115,12 @@ interval_part is_sample whole part = interval_column is_sample (interval_text wh
 abbrev pub asked_text : Bool → ℕ → List ℕ
 asked_text is_filtered n = cond is_filtered (number_text n ++ codes " of ") []
 
+-- so many orders, in so many classes
+abbrev pub in_classes : ClassKind → ℕ → ℕ → List ℕ
+in_classes by orders classes = counted orders (codes "order") (codes "orders") ++ (codes " in " ++ counted classes (class_word by) (classes_word by))
+
 abbrev pub counts_text : Page → List ℕ
-counts_text p =
-    asked_text p.is_filtered p.totals.all.orders
-    ++ (counted p.orders (codes "order") (codes "orders") ++ (codes " in " ++ counted p.totals.all.classes (class_word p.by) (classes_word p.by)))
+counts_text p = asked_text p.is_filtered p.totals.all.orders ++ in_classes p.by p.orders p.totals.all.classes
 
 -- that the orders are drawn
 abbrev pub seed_text : ℕ → List ℕ
@@ -226,33 +228,39 @@ total_widths by totals letters = record {
   classes = number_width (length (classes_word by)) (most_classes totals letters);
 }
 
--- a line of the totals
-abbrev pub total_cells : TotalWidths → List ℕ → List ℕ → List ℕ → List ℕ → List ℕ → List ℕ
-total_cells w letter orders share interval classes =
-    codes "  " ++ (letter ++ (codes " " ++ (right w.orders orders ++ (right w.share share ++ (interval ++ right w.classes classes)))))
+-- the numbers of a line of the totals, each in its column
+abbrev pub total_cells : TotalWidths → List ℕ → List ℕ → List ℕ → List ℕ → List ℕ
+total_cells w orders share interval classes = right w.orders orders ++ (right w.share share ++ (interval ++ right w.classes classes))
 
-abbrev pub totals_head : TotalWidths → Bool → ClassKind → List ℕ
-totals_head w is_sample by = total_cells w (codes " ") (codes "orders") (codes "share") (interval_column is_sample (codes "95% interval")) (classes_word by)
+-- the names of the columns
+abbrev pub head_cells : TotalWidths → Bool → ClassKind → List ℕ
+head_cells w is_sample by = total_cells w (codes "orders") (codes "share") (interval_column is_sample (codes "95% interval")) (classes_word by)
 
-abbrev pub some_total : TotalWidths → Bool → ℕ → Letter → Total → List ℕ
-some_total w is_sample whole letter t =
-    total_cells w (sign letter) (number_text t.orders) (share_text whole t.orders) (interval_part is_sample whole t.orders) (number_text t.classes)
-    ++ (codes "  " ++ meaning letter)
+-- no numbers where the letter is not known
+abbrev pub cells_of : TotalWidths → Bool → ℕ → Option Total → List ℕ
+cells_of w is_sample whole None = total_cells w (codes "-") (codes "-") (interval_column is_sample (codes "-")) (codes "-")
+cells_of w is_sample whole (Some t) =
+    total_cells w (number_text t.orders) (share_text whole t.orders) (interval_part is_sample whole t.orders) (number_text t.classes)
+
+-- the letter in front of its numbers
+abbrev pub letter_front : Letter → List ℕ
+letter_front letter = codes "  " ++ (sign letter ++ codes " ")
 
 -- why R is not known
 abbrev pub unknown_text : Bool → List ℕ
 unknown_text is_sample = cond is_sample (codes "  anomaly: not known for samples") (codes "  anomaly: not known for permutation lines")
 
--- no numbers where the letter is not known
-abbrev pub unknown_total : TotalWidths → Bool → Letter → List ℕ
-unknown_total w is_sample letter = total_cells w (sign letter) (codes "-") (codes "-") (interval_column is_sample (codes "-")) (codes "-") ++ unknown_text is_sample
+-- what a letter means, behind its numbers
+abbrev pub meaning_of : Bool → Letter → Option Total → List ℕ
+meaning_of is_sample letter None = unknown_text is_sample
+meaning_of is_sample letter (Some t) = codes "  " ++ meaning letter
 
-abbrev pub total_by : TotalWidths → Bool → ℕ → Letter → Option Total → List ℕ
-total_by w is_sample whole letter None = unknown_total w is_sample letter
-total_by w is_sample whole letter (Some t) = some_total w is_sample whole letter t
+abbrev pub totals_head : TotalWidths → Bool → ClassKind → List ℕ
+totals_head w is_sample by = codes "    " ++ head_cells w is_sample by
 
 abbrev pub total_line : TotalWidths → Bool → Totals → Letter → List ℕ
-total_line w is_sample totals letter = total_by w is_sample totals.all.orders letter (total_of totals letter)
+total_line w is_sample totals letter =
+    letter_front letter ++ (cells_of w is_sample totals.all.orders (total_of totals letter) ++ meaning_of is_sample letter (total_of totals letter))
 
 abbrev pub totals_by : TotalWidths → Bool → ClassKind → Totals → List Letter → List (List ℕ)
 totals_by w is_sample by totals letters = totals_head w is_sample by ∷ map (total_line w is_sample totals) letters

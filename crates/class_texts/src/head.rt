@@ -24,18 +24,25 @@ fn put_asked(line: &mut Items<char>, is_filtered: bool, number: u64) -> Result<(
     Ok(())
 }
 
+/// Puts a number of orders, in so many classes, behind a line.
+pub(crate) fn put_in_classes(
+    line: &mut Items<char>,
+    by: ClassKind,
+    orders: u64,
+    classes: u64,
+) -> Result<(), AllocError>
+    ensures { OnOk result (line.new ≡ line.old ++ spec.in_classes by orders classes) }
+{
+    put_counted(line, orders, "order", "orders")?;
+    put(line, " in ")?;
+    put_counted(line, classes, class_word(by), classes_word(by))
+}
+
 fn put_counts(line: &mut Items<char>, page: &Page<'_>) -> Result<(), AllocError>
     ensures { OnOk result (line.new ≡ line.old ++ spec.counts_text page.now) }
 {
     put_asked(line, page.is_filtered, page.totals.all.orders)?;
-    put_counted(line, page.orders, "order", "orders")?;
-    put(line, " in ")?;
-    put_counted(
-        line,
-        page.totals.all.classes,
-        class_word(page.by),
-        classes_word(page.by),
-    )
+    put_in_classes(line, page.by, page.orders, page.totals.all.classes)
 }
 
 /// Puts a line behind others.

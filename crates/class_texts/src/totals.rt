@@ -1,6 +1,6 @@
 //! How many orders and classes show what.
 
-ghost use Rattle.std.specs.Prelude.{◌≡◌, ◌++◌, IfOk, OnOk, map};
+ghost use Rattle.std.specs.Prelude.{◌≡◌, ◌++◌, IfOk, None, OnOk, Some, map};
 ghost use Rattle.shown_texts.specs.Pages.{part};
 ghost use Rattle.class_texts.specs.Counted.{number_text};
 ghost use Rattle.class_texts.specs.Pages as spec;
@@ -38,45 +38,40 @@ pub(crate) fn number_line(alloc: Global, number: u64) -> Result<Items<char>, All
     Ok(line)
 }
 
-/// A line with what stands in the columns of the totals.
-fn cells(
-    alloc: Global,
+/// Puts what stands in the columns of the totals behind a line.
+fn put_cells(
+    line: &mut Items<char>,
     widths: TotalWidths,
-    letter: &str,
     orders: &[char],
     share: &[char],
     interval: &[char],
     classes: &[char],
-) -> Result<Items<char>, AllocError>
-    ensures { IfOk result (λ line. line ≡ spec.total_cells widths letter.now orders.now share.now interval.now classes.now) }
+) -> Result<(), AllocError>
+    ensures { OnOk result (line.new ≡ line.old ++ spec.total_cells widths orders.now share.now interval.now classes.now) }
 {
-    let mut line = Items::new(alloc);
-    put(&mut line, "  ")?;
-    put(&mut line, letter)?;
-    put(&mut line, " ")?;
-    put_right(&mut line, widths.orders, orders)?;
-    put_right(&mut line, widths.share, share)?;
-    put_line(&mut line, interval)?;
-    put_right(&mut line, widths.classes, classes)?;
-    Ok(line)
+    put_right(line, widths.orders, orders)?;
+    put_right(line, widths.share, share)?;
+    put_line(line, interval)?;
+    put_right(line, widths.classes, classes)
 }
 
-fn totals_head(
+/// Puts the names of the columns behind a line.
+pub(crate) fn put_head(
     alloc: Global,
+    line: &mut Items<char>,
     widths: TotalWidths,
     is_sample: bool,
     by: ClassKind,
-) -> Result<Items<char>, AllocError>
-    ensures { IfOk result (λ line. line ≡ spec.totals_head widths is_sample by) }
+) -> Result<(), AllocError>
+    ensures { OnOk result (line.new ≡ line.old ++ spec.head_cells widths is_sample by) }
 {
     let orders = line_of(alloc, "orders")?;
     let share = line_of(alloc, "share")?;
     let interval = interval_word(alloc, is_sample, "95% interval")?;
     let classes = line_of(alloc, classes_word(by))?;
-    cells(
-        alloc,
+    put_cells(
+        line,
         widths,
-        " ",
         orders.as_slice(),
         share.as_slice(),
         interval.as_slice(),
@@ -84,50 +79,87 @@ fn totals_head(
     )
 }
 
-fn some_total(
+/// Puts the numbers of a letter behind a line.
+pub(crate) fn put_total(
     alloc: Global,
+    line: &mut Items<char>,
     widths: TotalWidths,
     is_sample: bool,
     whole: u64,
-    letter: Letter,
+    total: Option<Total>,
+) -> Result<(), AllocError>
+    ensures { OnOk result (line.new ≡ line.old ++ spec.cells_of widths is_sample whole total) }
+{
+    match total {
+        None => put_unknown(alloc, line, widths, is_sample),
+        Some(total) => put_numbers(alloc, line, widths, is_sample, whole, total),
+    }
+}
+
+fn put_numbers(
+    alloc: Global,
+    line: &mut Items<char>,
+    widths: TotalWidths,
+    is_sample: bool,
+    whole: u64,
     total: Total,
-) -> Result<Items<char>, AllocError>
-    ensures { IfOk result (λ line. line ≡ spec.some_total widths is_sample whole letter total) }
+) -> Result<(), AllocError>
+    ensures { OnOk result (line.new ≡ line.old ++ spec.cells_of widths is_sample whole (Some total)) }
 {
     let orders = number_line(alloc, total.orders)?;
     let share = share_text(alloc, whole, total.orders)?;
     let interval = interval_part(alloc, is_sample, whole, total.orders)?;
     let classes = number_line(alloc, total.classes)?;
-    let mut line = cells(
-        alloc,
+    put_cells(
+        line,
         widths,
-        letter.sign(),
         orders.as_slice(),
         share.as_slice(),
         interval.as_slice(),
         classes.as_slice(),
-    )?;
-    put(&mut line, "  ")?;
-    put(&mut line, letter.meaning())?;
-    Ok(line)
+    )
 }
 
-/// The line of a letter that is not known.
-fn unknown_total(
+/// Puts that the numbers of a letter are not known behind a line.
+fn put_unknown(
     alloc: Global,
+    line: &mut Items<char>,
     widths: TotalWidths,
     is_sample: bool,
-    letter: Letter,
-) -> Result<Items<char>, AllocError>
-    ensures { IfOk result (λ line. line ≡ spec.unknown_total widths is_sample letter) }
+) -> Result<(), AllocError>
+    ensures { OnOk result (line.new ≡ line.old ++ spec.cells_of widths is_sample 0 None) }
 {
     let none = line_of(alloc, "-")?;
     let none = none.as_slice();
     let interval = interval_word(alloc, is_sample, "-")?;
-    let interval = interval.as_slice();
-    let mut line = cells(alloc, widths, letter.sign(), none, none, interval, none)?;
-    put(&mut line, unknown_text(is_sample))?;
-    Ok(line)
+    put_cells(line, widths, none, none, interval.as_slice(), none)
+}
+
+/// Puts a letter, in front of its numbers, behind a line.
+pub(crate) fn put_letter(line: &mut Items<char>, letter: Letter) -> Result<(), AllocError>
+    ensures { OnOk result (line.new ≡ line.old ++ spec.letter_front letter) }
+{
+    put(line, "  ")?;
+    put(line, letter.sign())?;
+    put(line, " ")
+}
+
+/// Puts what a letter means, or why it is not known, behind its numbers.
+pub(crate) fn put_meaning(
+    line: &mut Items<char>,
+    is_sample: bool,
+    letter: Letter,
+    total: Option<Total>,
+) -> Result<(), AllocError>
+    ensures { OnOk result (line.new ≡ line.old ++ spec.meaning_of is_sample letter total) }
+{
+    match total {
+        None => put(line, unknown_text(is_sample)),
+        Some(_) => {
+            put(line, "  ")?;
+            put(line, letter.meaning())
+        }
+    }
 }
 
 /// Why R is not known.
@@ -141,6 +173,20 @@ fn unknown_text(is_sample: bool) -> &'static str
     }
 }
 
+fn totals_head(
+    alloc: Global,
+    widths: TotalWidths,
+    is_sample: bool,
+    by: ClassKind,
+) -> Result<Items<char>, AllocError>
+    ensures { IfOk result (λ line. line ≡ spec.totals_head widths is_sample by) }
+{
+    let mut line = Items::new(alloc);
+    put(&mut line, "    ")?;
+    put_head(alloc, &mut line, widths, is_sample, by)?;
+    Ok(line)
+}
+
 fn total_line(
     alloc: Global,
     widths: TotalWidths,
@@ -150,10 +196,19 @@ fn total_line(
 ) -> Result<Items<char>, AllocError>
     ensures { IfOk result (λ line. line ≡ spec.total_line widths is_sample totals letter) }
 {
-    match letter.total(totals) {
-        None => unknown_total(alloc, widths, is_sample, letter),
-        Some(total) => some_total(alloc, widths, is_sample, totals.all.orders, letter, total),
-    }
+    let total = letter.total(totals);
+    let mut line = Items::new(alloc);
+    put_letter(&mut line, letter)?;
+    put_total(
+        alloc,
+        &mut line,
+        widths,
+        is_sample,
+        totals.all.orders,
+        total,
+    )?;
+    put_meaning(&mut line, is_sample, letter, total)?;
+    Ok(line)
 }
 
 /// Puts a line for each letter behind other lines.

@@ -2,7 +2,7 @@
 use Rattle.std.specs.Prelude.{ℕ, Bool, false, ◌&&◌, ◌||◌, List, [], ◌∷◌, map, codes}
 use Rattle.std.specs.Str.{bytes_eq}
 use Rattle.command_line.specs.declared.words.Asked.{Asked}
-use Rattle.command_line.specs.declared.words.Asked.TheVariants.{Check, One, Count, Rank, Order, Show, Classes, Outcomes, Run, Join, Missing, Holds, Report, Audit, Judge, Test}
+use Rattle.command_line.specs.declared.words.Asked.TheVariants.{Check, One, Count, Rank, Order, Show, Classes, Levels, Outcomes, Run, Join, Missing, Holds, Report, Audit, Judge, Test}
 
 -- a hyphen alone is standard input
 abbrev pub is_input : List ℕ → Bool
@@ -22,6 +22,7 @@ repeats_input (Rank path names) = false
 repeats_input (Order path rank) = false
 repeats_input (Show path order json level) = false
 repeats_input (Classes path wanted progress) = false
+repeats_input (Levels path wanted progress) = false
 repeats_input (Outcomes paths wanted) = repeats false (map (λ p. p.now) paths)
 repeats_input (Run path ranks every workers progress) = false
 repeats_input (Join paths) = repeats false (map (λ p. p.now) paths)

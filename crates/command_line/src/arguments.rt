@@ -65,6 +65,8 @@ enum Form {
     Seed,
     /// `--name LEVEL`
     Level,
+    /// `--name`, in place of a level, of which most flags are refused.
+    BothLevels,
     /// `--name FILE`
     File,
     /// `--name BOOK`, as often as wanted, in place of a spec.
@@ -263,6 +265,12 @@ pub const LEVEL: Word = Word {
     form: Form::Level,
 };
 
+pub const LEVELS: Word = Word {
+    name: "levels",
+    help: "Print both isolation levels side by side",
+    form: Form::BothLevels,
+};
+
 pub const FIRST: Word = Word {
     name: "FIRST",
     help: "The number of the first permutation",
@@ -379,10 +387,36 @@ static NOT_OF_BOOKS: &[&str] = &[
     "sample",
     "seed",
     "level",
+    "levels",
+];
+
+/// What is not asked of both levels.
+static NOT_OF_LEVELS: &[&str] = &[
+    "level",
+    "all-orders",
+    "waits",
+    "no-waits",
+    "deadlock",
+    "no-deadlock",
+    "error",
+    "no-error",
+    "stuck",
+    "no-stuck",
+    "anomaly",
+    "no-anomaly",
+    "not-sent",
+    "no-not-sent",
+    "by-result",
+    "expect",
+    "query",
+    "json",
+    "html",
+    "sample",
+    "seed",
 ];
 
 /// The words for levels.
-static LEVELS: &[&str] = &["read-committed", "serializable"];
+static LEVEL_WORDS: &[&str] = &["read-committed", "serializable"];
 
 /// What stands for a spec.
 static OF_SPEC: &[&str] = &["SPEC"];
@@ -404,7 +438,9 @@ fn formed<'a>(alloc: Global, word: &Word) -> Arg<'a> {
         Form::Number | Form::FirstOfAll | Form::EndOfAll => number(alloc, word),
         Form::Names => some(alloc, word, MAX_NAMES),
         Form::Books => some(alloc, word, MAX_BOOKS),
-        Form::Flag | Form::FlagOfBooks | Form::FlagOfAllOrders | Form::Page => flag(alloc, word),
+        Form::Flag | Form::FlagOfBooks | Form::FlagOfAllOrders | Form::Page | Form::BothLevels => {
+            flag(alloc, word)
+        }
         Form::Session => session(alloc, word),
         Form::Select => select(alloc, word),
         Form::Expectation => expectation(alloc, word),
@@ -429,6 +465,7 @@ fn ruled<'a>(form: Form, arg: Arg<'a>) -> Result<Arg<'a>, AllocError> {
         Form::Page => arg.conflicts_with_all(NOT_OF_PAGES),
         Form::Sample => arg.conflicts_with_all(NOT_OF_SAMPLES),
         Form::Seed => arg.requires_arg("sample"),
+        Form::BothLevels => arg.conflicts_with_all(NOT_OF_LEVELS),
         Form::InPlaceOfSpec => arg.conflicts_with_all(NOT_OF_BOOKS),
         _ => Ok(arg),
     }
@@ -520,7 +557,7 @@ fn level<'a>(alloc: Global, word: &Word) -> Arg<'a> {
     named(alloc, word)
         .value_name("LEVEL")
         .action(ArgAction::Set)
-        .value_parser(LEVELS)
+        .value_parser(LEVEL_WORDS)
 }
 
 fn file<'a>(alloc: Global, word: &Word) -> Arg<'a> {

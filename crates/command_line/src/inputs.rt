@@ -26,6 +26,7 @@ pub(crate) fn repeats_input(asked: &Asked<'_>) -> bool
         | Asked::Order { .. }
         | Asked::Show { .. }
         | Asked::Classes { .. }
+        | Asked::Levels { .. }
         | Asked::Run { .. }
         | Asked::Report { .. }
         | Asked::Audit { .. } => false,

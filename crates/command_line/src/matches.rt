@@ -11,8 +11,8 @@ use shard_board::Workers;
 use spec_levels::level_named;
 use std::alloc::{AllocError, Global};
 use wanted_classes::{
-    WantedClasses, WantedExpectation, WantedFilter, WantedForm, WantedOutcomes, WantedSample,
-    WantedTest,
+    WantedClasses, WantedExpectation, WantedFilter, WantedForm, WantedLevels, WantedOutcomes,
+    WantedSample, WantedTest,
 };
 
 /// What the words ask for, nothing where they name no command.
@@ -114,6 +114,9 @@ fn classes_of_words<'a>(
         let books = Vec::from_slice(alloc, books)?;
         return Ok(outcomes_with(words, books));
     }
+    if words.get_flag("levels") {
+        return Ok(levels_with(words));
+    }
     let filters = filters_of_words(alloc, words)?;
     let queries = queries_of_words(alloc, words)?;
     let expectations = expectations_of_words(alloc, words)?;
@@ -129,6 +132,20 @@ fn outcomes_with<'a>(words: &ArgMatches<'a>, books: Vec<&'a str>) -> Option<Aske
             outcomes: words.get_flag("outcomes"),
             json: words.get_flag("json"),
         },
+    })
+}
+
+fn levels_with<'a>(words: &ArgMatches<'a>) -> Option<Asked<'a>> {
+    let path = words.get_str("SPEC")?;
+    Some(Asked::Levels {
+        path,
+        wanted: WantedLevels {
+            brief: words.get_flag("brief"),
+            outcomes: words.get_flag("outcomes"),
+            final_rows: words.get_flag("final-rows"),
+            memory: words.get_one::<u64>("memory")?,
+        },
+        progress: words.get_flag("progress"),
     })
 }
 

@@ -19,7 +19,7 @@ use clap::Error;
 use clap::error::ErrorKind;
 use shard_board::Workers;
 use std::alloc::{AllocError, Global};
-use wanted_classes::{WantedClasses, WantedOutcomes};
+use wanted_classes::{WantedClasses, WantedLevels, WantedOutcomes};
 
 /// The books of a join, and the accepted books of a judgement, at most.
 pub const MAX_BOOKS: usize = 1_000;
@@ -76,6 +76,12 @@ pub enum Asked<'a> {
     Classes {
         path: &'a str,
         wanted: WantedClasses<'a>,
+        progress: bool,
+    },
+    /// Orders of the spec at a path in classes at both levels, and whether it is told how far that is.
+    Levels {
+        path: &'a str,
+        wanted: WantedLevels,
         progress: bool,
     },
     /// What the books at one path or more tell of the orders of their spec, in classes.

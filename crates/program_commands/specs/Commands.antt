@@ -5,7 +5,7 @@ use Rattle.transcripts.specs.Counted.{Wrote, Stopped, written, failures_of}
 use Rattle.transcripts.specs.declared.counted.Counted.{Counted}
 use Rattle.command_line.specs.Lines.{Line, IsLine, AsksFor}
 use Rattle.command_line.specs.declared.words.Asked.{Asked}
-use Rattle.command_line.specs.declared.words.Asked.TheVariants.{Check, One, Count, Rank, Order, Show, Classes, Outcomes, Run, Join, Missing, Holds, Report, Audit, Judge, Test}
+use Rattle.command_line.specs.declared.words.Asked.TheVariants.{Check, One, Count, Rank, Order, Show, Classes, Levels, Outcomes, Run, Join, Missing, Holds, Report, Audit, Judge, Test}
 use Rattle.command_line.specs.declared.wanted.Wanted.{Wanted}
 use Rattle.command_line.specs.declared.wanted.Wanted.TheVariants as wanted
 use Rattle.command_line.specs.declared.ranks.WantedRanks.{WantedRanks}
@@ -20,6 +20,7 @@ use Rattle.spec_commands.specs.declared.showing.ShowForm.TheVariants as form
 use Rattle.spec_commands.specs.declared.showing.WantedOrder.{WantedOrder}
 use Rattle.spec_commands.specs.declared.showing.WantedOrder.TheVariants as order
 use Rattle.class_commands.specs.Classing.{IsClassesRun}
+use Rattle.class_commands.specs.Levels.{IsLevelsRun}
 use Rattle.class_commands.specs.Booking.{IsBookClassesRun}
 use Rattle.book_commands.specs.declared.finding.Finding.{Finding}
 use Rattle.book_commands.specs.declared.finding.Finding.TheVariants.{Good}
@@ -121,6 +122,9 @@ IsDone files contents old new (Classes path wanted progress) result =
     IsUnread (files path.now) path.now old new result
     ⊎ IsFoundBy (files path.now) (λ bytes. IsClassesRun contents old new bytes path.now wanted) (λ error told. told ≡ classing_told path error)
     result
+IsDone files contents old new (Levels path wanted progress) result =
+    IsUnread (files path.now) path.now old new result
+    ⊎ IsCalled (files path.now) (λ bytes. IsLevelsRun contents old new bytes path.now wanted) (λ bytes error told. told ≡ classing_told path error) result
 IsDone files contents old new (Outcomes paths wanted) result =
     IsTold (IsBookClassesRun files (map (λ p. p.now) paths) contents old new wanted) (λ error told. outcomes_told paths error ≡ Some told) result
 IsDone files contents old new (Run path ranks every workers progress) result =
@@ -166,6 +170,7 @@ tells_progress (Rank path names) = false
 tells_progress (Order path rank) = false
 tells_progress (Show path order json level) = false
 tells_progress (Classes path wanted progress) = progress
+tells_progress (Levels path wanted progress) = progress
 tells_progress (Outcomes paths wanted) = false
 tells_progress (Run path ranks every workers progress) = progress
 tells_progress (Join paths) = false

@@ -12,6 +12,7 @@ ghost use Rattle.spec_commands.specs.Ordering.{IsOrdered, IsRanked};
 ghost use Rattle.spec_commands.specs.Showing.{IsShowRun};
 ghost use Rattle.spec_commands.specs.declared.showing.WantedOrder.{WantedOrder};
 ghost use Rattle.class_commands.specs.Classing.{IsClassesRun};
+ghost use Rattle.class_commands.specs.Levels.{IsLevelsRun};
 ghost use Rattle.class_commands.specs.Booking.{IsBookClassesRun};
 ghost use Rattle.book_commands.specs.Finding.{finding_status};
 ghost use Rattle.book_commands.specs.Joining.{IsJoinRun};
@@ -40,7 +41,7 @@ use book_commands::{
 use bound_statements::Level;
 use clap::Error;
 use clap::error::ErrorKind;
-use class_commands::{Telling, book_classes, classes_told};
+use class_commands::{Telling, book_classes, both_levels_told, classes_told};
 use command_line::{Asked, Wanted, WantedRanks, parse_words};
 use fault_texts::ProgramFault;
 use range_commands::{run_all, run_told};
@@ -54,7 +55,7 @@ use std::thread::Threads;
 use std::time::Clock;
 use test_commands::Folder;
 use transcripts::{Counted, say};
-use wanted_classes::{WantedClasses, WantedOutcomes};
+use wanted_classes::{WantedClasses, WantedLevels, WantedOutcomes};
 
 /// Does what the words ask, the first of which is the program's name. What is asked for goes to `out`; faults go to `err`, and so does how far a
 /// run is, where that is asked for: of classes on one line that is written over, where `err` is a terminal. The answer is the exit status: 0 good, 1 where a rank has not exactly one value, ranks are missing,
@@ -141,6 +142,14 @@ where
         } => {
             let telling = telling_of(*progress, is_terminal);
             classes_of_file(rt, alloc, path, wanted, telling, opener, out, err)
+        }
+        Asked::Levels {
+            path,
+            wanted,
+            progress,
+        } => {
+            let telling = telling_of(*progress, is_terminal);
+            levels_of_file(rt, alloc, path, wanted, telling, opener, out, err)
         }
         Asked::Outcomes { paths, wanted } => {
             outcomes_of_files(alloc, paths.as_slice(), wanted, opener, out)
@@ -394,6 +403,40 @@ fn classes_of_file<'a, C: Clock, O: Opener, W: Write, E: Write>(
         err,
     ) {
         Ok(finding) => Ok(finding),
+        Err(fault) => Err(classes_fault(path, fault)),
+    }
+}
+
+fn levels_of_file<'a, C: Clock, O: Opener, W: Write, E: Write>(
+    clock: &C,
+    alloc: Global,
+    path: &'a str,
+    wanted: &WantedLevels,
+    telling: Telling,
+    opener: &O,
+    out: &mut Counted<W>,
+    err: &mut Counted<E>,
+) -> Result<Finding, ProgramFault<'a>>
+    requires { failures_of out.old ≡ 0 }
+    ensures done { IsUnread (O.bytes opener.now path.now) path.now out.old out.new result ⊎ IsCalled (O.bytes opener.now path.now) (λ bytes. IsLevelsRun W.contents out.old out.new bytes path.now wanted.now) (λ bytes error told. told ≡ classing_told path.entry error) result }
+    ensures failures { OnOk result (failures_of out.new ≡ 0) }
+    ensures quiet { telling ≡ Telling.Silent → err.new ≡ err.old }
+{
+    let bytes = match read_spec_file(alloc, opener, path) {
+        Ok(bytes) => bytes,
+        Err(fault) => return Err(fault),
+    };
+    match both_levels_told(
+        clock,
+        alloc,
+        bytes.as_slice(),
+        path,
+        wanted,
+        telling,
+        out,
+        err,
+    ) {
+        Ok(()) => Ok(Finding::Good),
         Err(fault) => Err(classes_fault(path, fault)),
     }
 }

@@ -42,6 +42,12 @@ returns-in-Classes-clause-done g c =
     (sym c.in-Classes.is)
     c.classes_of_file.ensures.done
 
+pub returns-in-Levels-clause-done : goal.returns-in-Levels-clause-done
+returns-in-Levels-clause-done g c =
+    subst (λ a. IsDone (g.O.Opener.bytes c.args.opener.now) g.W.Write.contents c.args.out.now c.levels_of_file.new.out a c.levels_of_file.result)
+    (sym c.in-Levels.is)
+    c.levels_of_file.ensures.done
+
 pub returns-in-Run-clause-done : goal.returns-in-Run-clause-done
 returns-in-Run-clause-done g c =
     subst (λ a. IsDone (g.O.Opener.bytes c.args.opener.now) g.W.Write.contents c.args.out.now c.run_of_file.new.out a c.run_of_file.result)
