@@ -6,9 +6,10 @@ use Rattle.statement_evaluation.specs.Effect.{effect}
 use Rattle.bound_specs.specs.Spec.{Spec}
 use Rattle.bound_statements.specs.declared.statement.Level.TheVariants.{Serializable, Committed as AtCommitted}
 use Rattle.events.specs.declared.event.Event.{Event}
-use Rattle.events.specs.declared.event.Event.TheVariants.{Sent, Row as RowEvent, Rows, Updated, Began, Committed, Warned, Done, Waiting}
+use Rattle.events.specs.declared.event.Event.TheVariants.{Sent, Row as RowEvent, Rows, Updated, Began, Committed, Warned, Failed, Done, Waiting, NotSent}
+use Rattle.events.specs.declared.event.Fault.TheVariants.{Deadlock}
 use Rattle.events.specs.declared.event.Warning.TheVariants.{InBlock as AlreadyInBlock}
-use Rattle.machine_model.specs.declared.status.Status.TheVariants.{Outside, InBlock}
+use Rattle.machine_model.specs.declared.status.Status.TheVariants.{Outside, InBlock, Broken}
 use Rattle.machine_model.specs.Start.{Started, start}
 use Rattle.machine_model.proofs.Worked.{number, level_row}
 use Rattle.line_moments.specs.declared.moment.Moment.{Moment}
@@ -77,3 +78,14 @@ done_outside = refl
 committed : open_reads (InBlock AtCommitted) (Sent 0 ∷ Began ∷ one 10 ++ Committed ∷ Began ∷ one 11 ++ Done ∷ [])
     ≡ record { step = 0; place = 4; told = one 11 } ∷ []
 committed = refl
+
+-- also where the same step is sent once more
+sent_again : open_reads Outside (Sent 0 ∷ one 10 ++ Done ∷ Sent 0 ∷ Waiting ∷ []) ≡ []
+sent_again = refl
+
+-- nothing is open behind a fault
+failed : open_reads Broken (Sent 0 ∷ Began ∷ one 10 ++ Failed Deadlock ∷ Done ∷ []) ≡ []
+failed = refl
+
+failed_outside : open_reads Outside (Sent 0 ∷ one 10 ++ Failed Deadlock ∷ Done ∷ Sent 0 ∷ Waiting ∷ NotSent 0 ∷ []) ≡ []
+failed_outside = refl

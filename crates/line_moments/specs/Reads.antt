@@ -1,5 +1,5 @@
 -- The reads of a session's open transaction, as its transcript tells them.
-use Rattle.std.specs.Prelude.{ℕ, suc, Bool, true, false, cond, ◌==◌, List, [], ◌∷◌, ◌++◌, Option, Some, None}
+use Rattle.std.specs.Prelude.{ℕ, suc, Bool, true, false, cond, List, [], ◌∷◌, ◌++◌}
 use Rattle.events.specs.declared.event.Event.{Event}
 use Rattle.events.specs.declared.event.Event.TheVariants.{Sent, Row as RowEvent, Rows, Inserted, Updated, Deleted, Began, Committed, RolledBack}
 use Rattle.events.specs.declared.event.Event.TheVariants.{Locked, Set, Warned, Failed, Waiting, Resumed, Done, NotSent}
@@ -11,43 +11,33 @@ use Rattle.line_moments.specs.declared.reads.OpenRead.{OpenRead}
 use Rattle.line_moments.specs.declared.reads.Reads.{Reads}
 
 abbrev pub no_reads : Reads
-no_reads = record { step = None; place = 0; rows = []; is_warned = false; reads = [] }
+no_reads = record { step = 0; place = 0; rows = []; is_warned = false; earlier = []; reads = [] }
 
 abbrev pub begun : ℕ → Reads → Reads
-begun step x = record { step = Some step; place = 0; rows = []; is_warned = false; reads = x.reads }
+begun step x = record x { step = step; place = 0; rows = []; is_warned = false }
 
 -- a statement of the step has ended
 abbrev pub one_ended : Reads → Reads
-one_ended x = record { step = x.step; place = suc x.place; rows = []; is_warned = false; reads = x.reads }
+one_ended x = record x { place = suc x.place; rows = []; is_warned = false }
+
+-- the step has ended, and what it read was read by an earlier step from now on
+abbrev pub step_ended : Reads → Reads
+step_ended x = record x { earlier = x.earlier ++ x.reads; reads = [] }
 
 -- the transaction has ended
 abbrev pub forgotten : Reads → Reads
-forgotten x = record x { rows = []; reads = [] }
+forgotten x = record x { rows = []; earlier = []; reads = [] }
 
 abbrev pub with_row : Event → Reads → Reads
 with_row row x = record x { rows = x.rows ++ row ∷ [] }
 
--- the SELECT that the step which runs has done
-abbrev pub read_of : Option ℕ → ℕ → List Event → List OpenRead
-read_of None place told = []
-read_of (Some step) place told = record { step = step; place = place; told = told } ∷ []
-
 -- a SELECT has ended, and told how many rows it showed
 abbrev pub noted : Event → Reads → Reads
-noted count x = record x { reads = x.reads ++ read_of x.step x.place (x.rows ++ count ∷ []) }
+noted count x = record x { reads = x.reads ++ record { step = x.step; place = x.place; told = x.rows ++ count ∷ [] } ∷ [] }
 
-abbrev pub is_step : Option ℕ → ℕ → Bool
-is_step None k = false
-is_step (Some step) k = step == k
-
--- the reads of the step that runs
-abbrev pub of_step : Option ℕ → List OpenRead → List OpenRead
-of_step step [] = []
-of_step step (r ∷ rs) = cond (is_step step r.step) (r ∷ of_step step rs) (of_step step rs)
-
--- a block begins: what its step read before is of the same transaction, and what other steps read is not; unless there is a block already
+-- a block begins: what its step read before is of the same transaction, and what earlier steps read is not; unless there is a block already
 abbrev pub block_begun : Reads → Reads
-block_begun x = record x { reads = cond x.is_warned x.reads (of_step x.step x.reads) }
+block_begun x = record x { earlier = cond x.is_warned x.earlier [] }
 
 abbrev pub is_in_block : Warning → Bool
 is_in_block AlreadyInBlock = true
@@ -70,7 +60,7 @@ read_on x (Warned w) = record x { is_warned = is_in_block w }
 read_on x (Failed f) = forgotten x
 read_on x Waiting = x
 read_on x Resumed = x
-read_on x Done = record x { step = None }
+read_on x Done = step_ended x
 read_on x (NotSent k) = x
 
 abbrev pub read_all : Reads → List Event → Reads
@@ -79,8 +69,8 @@ read_all x (e ∷ es) = read_all (read_on x e) es
 
 -- outside a block the transaction of the step that runs is open, and in a failed one none is
 abbrev pub open_by : Status → Reads → List OpenRead
-open_by Outside x = of_step x.step x.reads
-open_by (InBlock level) x = x.reads
+open_by Outside x = x.reads
+open_by (InBlock level) x = x.earlier ++ x.reads
 open_by Broken x = []
 
 -- the SELECTs of the open transaction of a session that stands so with its block and was told this

@@ -77,7 +77,7 @@ stale_of steps c before now rs = flat_map (stale_read steps c before now) rs
 abbrev pub seen_by : World → ℕ → Rows'
 seen_by w c = lay (session_at w c).overlay w.rows
 
--- of the reads of a session's open transaction, those that are stale in v and were not in w
+-- of the reads of a session's open transaction, those that the way from w to v made stale
 abbrev pub stale_in : List Step → ℕ → World → World → List Stale
 stale_in steps c w v = stale_of steps c (seen_by w c) (seen_by v c) (open_reads (session_at w c).status (session_at w c).transcript)
 

@@ -1,6 +1,6 @@
 //! The reads of a session's open transaction, as its transcript tells them.
 
-ghost use Rattle.std.specs.Prelude.{◌≡◌, ◌≤◌, ◌<◌, ◌+◌, ◌^◌, ◌++◌, ◌∷◌, [], None, Some, IfOk, OnOk, length};
+ghost use Rattle.std.specs.Prelude.{◌≡◌, ◌≤◌, ◌<◌, ◌+◌, ◌^◌, ◌++◌, ◌∷◌, [], IfOk, OnOk, length};
 ghost use Rattle.line_moments.specs.Reads as spec;
 
 use events::{Event, Transcript, Warning};
@@ -8,6 +8,7 @@ use finite_maps::Fork;
 use machine_model::Status;
 use sqlite_items::Items;
 use std::alloc::{AllocError, Global};
+use std::mem;
 
 /// A SELECT that a session has done, and what it was told.
 pub struct OpenRead {
@@ -30,29 +31,19 @@ impl Drop for OpenRead {
     }
 }
 
-impl OpenRead {
-    fn copied(&self) -> Result<OpenRead, AllocError>
-        ensures { IfOk result (λ read. read ≡ self.now) }
-    {
-        Ok(OpenRead {
-            step: self.step,
-            place: self.place,
-            told: self.told.fork()?,
-        })
-    }
-}
-
 /// What a transcript tells of reads, up to some event.
 pub struct Reads {
-    /// The step that runs.
-    step: Option<u8>,
+    /// The step that was sent last.
+    step: u8,
     /// How many of its statements have ended.
     place: usize,
     /// The rows that a SELECT has shown which has not ended.
     rows: Transcript,
     /// Whether the last event warns that there is a block already.
     is_warned: bool,
-    /// The SELECTs of the open transaction, if one is open.
+    /// The SELECTs that earlier steps have done in the transaction, if it is a block.
+    earlier: Items<OpenRead>,
+    /// Those that the step has done which runs.
     reads: Items<OpenRead>,
 }
 
@@ -64,6 +55,7 @@ impl Drop for Reads {
             place: _,
             rows: _rows,
             is_warned: _,
+            earlier: _earlier,
             reads: _reads,
         } = self;
     }
@@ -74,10 +66,11 @@ impl Reads {
         ensures { result ≡ spec.no_reads }
     {
         Reads {
-            step: None,
+            step: 0,
             place: 0,
             rows: Transcript::new(alloc),
             is_warned: false,
+            earlier: Items::new(alloc),
             reads: Items::new(alloc),
         }
     }
@@ -86,7 +79,7 @@ impl Reads {
     fn begin(&mut self, alloc: Global, step: u8)
         ensures { self.new ≡ spec.begun step self.old }
     {
-        self.step = Some(step);
+        self.step = step;
         self.place = 0;
         self.rows = Transcript::new(alloc);
         self.is_warned = false;
@@ -102,11 +95,20 @@ impl Reads {
         self.is_warned = false;
     }
 
+    /// The step has ended.
+    fn end_step(&mut self, alloc: Global) -> Result<(), AllocError>
+        ensures { OnOk result (self.new ≡ spec.step_ended self.old) }
+    {
+        let reads = mem::replace(&mut self.reads, Items::new(alloc));
+        self.earlier.append(reads)
+    }
+
     /// The transaction has ended.
     fn forget(&mut self, alloc: Global)
         ensures { self.new ≡ spec.forgotten self.old }
     {
         self.rows = Transcript::new(alloc);
+        self.earlier = Items::new(alloc);
         self.reads = Items::new(alloc);
     }
 
@@ -122,26 +124,22 @@ impl Reads {
     fn note(&mut self, event: &Event) -> Result<(), AllocError>
         ensures { OnOk result (self.new ≡ spec.noted event.now self.old) }
     {
-        let Some(step) = self.step else {
-            return Ok(());
-        };
         let mut told = self.rows.fork()?;
         told.push(event.fork()?)?;
         self.reads.push(OpenRead {
-            step,
+            step: self.step,
             place: self.place,
             told,
         })
     }
 
     /// A block begins: with what its step has read before it, unless there is one already.
-    fn begin_block(&mut self, alloc: Global) -> Result<(), AllocError>
-        ensures { OnOk result (self.new ≡ spec.block_begun self.old) }
+    fn begin_block(&mut self, alloc: Global)
+        ensures { self.new ≡ spec.block_begun self.old }
     {
         if !self.is_warned {
-            self.reads = of_step(alloc, self.step, &self.reads)?;
+            self.earlier = Items::new(alloc);
         }
-        Ok(())
     }
 
     /// Those of the transaction that is open where the session stands so with its block.
@@ -149,15 +147,16 @@ impl Reads {
         ensures { IfOk result (λ reads. reads ≡ spec.open_by status self) }
     {
         let Reads {
-            step,
+            step: _,
             place: _,
             rows: _rows,
             is_warned: _,
+            earlier,
             reads,
         } = self;
         match status {
-            Status::Outside => of_step(alloc, step, &reads),
-            Status::InBlock(_) => Ok(reads),
+            Status::Outside => Ok(reads),
+            Status::InBlock(_) => joined(earlier, reads),
             Status::Broken => Ok(Items::new(alloc)),
         }
     }
@@ -175,7 +174,7 @@ impl Reads {
                 self.end_one(alloc);
             }
             Event::Began => {
-                self.begin_block(alloc)?;
+                self.begin_block(alloc);
                 self.end_one(alloc);
             }
             Event::Committed | Event::RolledBack => {
@@ -189,28 +188,20 @@ impl Reads {
             | Event::Set => self.end_one(alloc),
             Event::Warned(warning) => self.is_warned = *warning == Warning::InBlock,
             Event::Failed(_) => self.forget(alloc),
-            Event::Done => self.step = None,
+            Event::Done => self.end_step(alloc)?,
             Event::Waiting | Event::Resumed | Event::NotSent(_) => {}
         }
         Ok(())
     }
 }
 
-/// The reads of a step that runs.
-fn of_step(
-    alloc: Global,
-    step: Option<u8>,
-    reads: &Items<OpenRead>,
-) -> Result<Items<OpenRead>, AllocError>
-    ensures { IfOk result (λ own. own ≡ spec.of_step step reads.now) }
+/// These reads and behind them those.
+fn joined(first: Items<OpenRead>, second: Items<OpenRead>) -> Result<Items<OpenRead>, AllocError>
+    ensures { IfOk result (λ all. all ≡ first ++ second) }
 {
-    let mut own = Items::new(alloc);
-    for read in reads.as_slice() {
-        if step == Some(read.step) {
-            own.push(read.copied()?)?;
-        }
-    }
-    Ok(own)
+    let mut all = first;
+    all.append(second)?;
+    Ok(all)
 }
 
 /// The SELECTs of the transaction that is open where a session stands so with its block and was told this. It fails for want of memory alone.

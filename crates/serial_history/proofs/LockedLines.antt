@@ -271,7 +271,9 @@ pub spec-serializable : (spec : Spec) (w : World) (ks : List ℕ) → IsBound sp
 spec-serializable spec w ks bound e =
     let x = spec-locked Any AtSerializable in-serializable spec w ks bound (λ i d lt. any-block _) (λ i d lt. any-block _) (λ k. any-block _) e in
     record {
-      works = λ c. kept-work (get_or (send_all_told spec.steps w ks (start_told spec)).works c []) (x.works c);
-      commits = λ t a s. ap (λ ds. record { session = t.session; work = ds })
+      works = x.works;
+      commits = x.commits;
+      whole_works = λ c. kept-work (get_or (send_all_told spec.steps w ks (start_told spec)).works c []) (x.works c);
+      whole_commits = λ t a s. ap (λ ds. record { session = t.session; work = ds })
           (kept-work t.work (among-locked AtSerializable t (send_all_told spec.steps w ks (start_told spec)).commits x.commits a) s);
     }

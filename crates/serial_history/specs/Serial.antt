@@ -241,10 +241,12 @@ abbrev pub IsSerializable : List Did → Type 0
 IsSerializable [] = Unit {0}
 IsSerializable (d ∷ ds) = AtSerializable d.status × IsSerializable ds
 
--- of a transaction whose work was all done in a block at SERIALIZABLE nothing is left out, be it committed or open
+-- nothing that was done in a block at SERIALIZABLE is left out; so a transaction whose work was all done in one is whole, be it committed or open
 pub record KeepsSerializable (h : History) : Type 0 where
-  pub works : (c : ℕ) → IsSerializable (get_or h.works c []) → locked_work (get_or h.works c []) ≡ get_or h.works c []
-  pub commits : (t : Transaction) → Among t h.commits → IsSerializable t.work → locked_commit t ≡ t
+  pub works : (c : ℕ) → AllLocked AtSerializable (get_or h.works c [])
+  pub commits : CommitsLocked AtSerializable h.commits
+  pub whole_works : (c : ℕ) → IsSerializable (get_or h.works c []) → locked_work (get_or h.works c []) ≡ get_or h.works c []
+  pub whole_commits : (t : Transaction) → Among t h.commits → IsSerializable t.work → locked_commit t ≡ t
 
 -- what it did in its open transaction gives the same again over the rows as they are
 pub record Repeats (rows : Rows') (s : Session) (work : List Did) : Type 0 where

@@ -28,8 +28,8 @@ pub fn locked_specs_are_whole()
     ensures { LockedSpecsAreWhole }
 {}
 
-/// Whatever level the others have, nothing is left out of a transaction all of whose work was done in a block at SERIALIZABLE: it is whole in the serial
-/// run of `specs_have_heirs`.
+/// Whatever level the others have, nothing that was done in a block at SERIALIZABLE is left out: a transaction all of whose work was done in one is whole in
+/// the serial run of `specs_have_heirs`.
 pub fn serializable_stays_whole()
     ensures { SerializableStaysWhole }
 {}
