@@ -14,7 +14,7 @@ use Rattle.order_classes.specs.declared.shows.Rest.TheVariants.{HasEnded, IsOpen
 use Rattle.order_classes.specs.declared.shows.Shows.{Shows as Shown}
 use Rattle.shown_texts.specs.Characters.{shown_text}
 use Rattle.shown_texts.specs.Lanes.{words}
-use Rattle.shown_texts.specs.Pages.{values_text}
+use Rattle.shown_texts.specs.Words.{values_text}
 
 -- it stands behind so many blanks. They do not unfold: what stands behind them does not go by their number
 unfoldable pub margin : List ℕ

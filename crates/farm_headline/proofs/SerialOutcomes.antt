@@ -6,7 +6,8 @@ use Rattle.bound_specs.proofs.FileLemmas.{file-always, file-is-bound}
 use Rattle.machine_model.specs.Start.{Start, Started, SetupFailed, SessionSetupFailed, SessionSetupWaits, start}
 use Rattle.machine_model.specs.World.{send_all, outcome_of}
 use Rattle.serial_history.specs.Serial.{IsSerial}
-use Rattle.serial_history.proofs.StartsTold.{bound-serial, bound-shown}
+use Rattle.serial_history.proofs.LockedLines.{bound-serial}
+use Rattle.serial_history.proofs.StartsTold.{bound-shown}
 use Rattle.events.specs.declared.event.Event.{Event}
 use Rattle.farm_headline.specs.Laws.{AreSerial, OutcomesAreSerial}
 

@@ -7,6 +7,7 @@ pub mod Failing
 pub mod Behind
 pub mod Changing
 pub mod Worked
+pub mod WorkedReads
 pub mod Steps
 pub mod Started
 pub mod Resuming
@@ -16,3 +17,4 @@ pub mod Leaving
 pub mod Stands
 pub mod Showing
 pub mod StillWaiting
+pub mod StaleReads

@@ -70,6 +70,7 @@ waits_row_is : told waits_row (0 ∷ 2 ∷ 3 ∷ 1 ∷ [])
       status = InBlock Serializable;
       ending = Ended;
       still = [];
+      stale = [];
     }
     ∷ record {
       session = 1;
@@ -80,6 +81,7 @@ waits_row_is : told waits_row (0 ∷ 2 ∷ 3 ∷ 1 ∷ [])
       status = InBlock Serializable;
       ending = awaits (row 1) Exclusive (holds 0 Exclusive ∷ []);
       still = [];
+      stale = [];
     }
     ∷ record {
       session = 1;
@@ -90,6 +92,7 @@ waits_row_is : told waits_row (0 ∷ 2 ∷ 3 ∷ 1 ∷ [])
       status = InBlock Serializable;
       ending = awaits (row 1) Exclusive (holds 0 Exclusive ∷ []);
       still = [];
+      stale = [];
     }
     ∷ record {
       session = 0;
@@ -100,6 +103,7 @@ waits_row_is : told waits_row (0 ∷ 2 ∷ 3 ∷ 1 ∷ [])
       status = Outside;
       ending = Ended;
       still = [];
+      stale = [];
     }
     ∷ record {
       session = 1;
@@ -110,6 +114,7 @@ waits_row_is : told waits_row (0 ∷ 2 ∷ 3 ∷ 1 ∷ [])
       status = InBlock Serializable;
       ending = Ended;
       still = [];
+      stale = [];
     }
     ∷ []
 unfolding get insert keep remove entries empty effect lay
@@ -126,6 +131,7 @@ ring_row_is : told ring_row (0 ∷ 2 ∷ 1 ∷ 3 ∷ [])
       status = InBlock Serializable;
       ending = Ended;
       still = [];
+      stale = [];
     }
     ∷ record {
       session = 1;
@@ -136,6 +142,7 @@ ring_row_is : told ring_row (0 ∷ 2 ∷ 1 ∷ 3 ∷ [])
       status = InBlock Serializable;
       ending = Ended;
       still = [];
+      stale = [];
     }
     ∷ record {
       session = 0;
@@ -146,6 +153,7 @@ ring_row_is : told ring_row (0 ∷ 2 ∷ 1 ∷ 3 ∷ [])
       status = InBlock Serializable;
       ending = awaits (row 2) Exclusive (holds 1 Exclusive ∷ []);
       still = [];
+      stale = [];
     }
     ∷ record {
       session = 1;
@@ -156,6 +164,7 @@ ring_row_is : told ring_row (0 ∷ 2 ∷ 1 ∷ 3 ∷ [])
       status = Broken;
       ending = Loses (hop 1 1 0 ∷ hop 0 2 1 ∷ []);
       still = [];
+      stale = [];
     }
     ∷ record {
       session = 0;
@@ -166,6 +175,7 @@ ring_row_is : told ring_row (0 ∷ 2 ∷ 1 ∷ 3 ∷ [])
       status = InBlock Serializable;
       ending = Ended;
       still = [];
+      stale = [];
     }
     ∷ []
 unfolding get insert keep remove entries empty effect lay
@@ -210,6 +220,7 @@ locking_row_is : told locking_row (0 ∷ 2 ∷ 1 ∷ [])
       status = InBlock Serializable;
       ending = Ended;
       still = [];
+      stale = [];
     }
     ∷ record {
       session = 1;
@@ -220,6 +231,7 @@ locking_row_is : told locking_row (0 ∷ 2 ∷ 1 ∷ [])
       status = InBlock Serializable;
       ending = awaits (row 1) Exclusive (holds 0 Exclusive ∷ []);
       still = [];
+      stale = [];
     }
     ∷ record {
       session = 0;
@@ -230,6 +242,7 @@ locking_row_is : told locking_row (0 ∷ 2 ∷ 1 ∷ [])
       status = Outside;
       ending = Ended;
       still = [];
+      stale = [];
     }
     ∷ record {
       session = 1;
@@ -240,6 +253,7 @@ locking_row_is : told locking_row (0 ∷ 2 ∷ 1 ∷ [])
       status = InBlock Serializable;
       ending = Ended;
       still = [];
+      stale = [];
     }
     ∷ []
 unfolding get insert keep remove entries empty effect lay
@@ -256,6 +270,7 @@ not_waiting_row_is : told not_waiting_row (0 ∷ 2 ∷ [])
       status = InBlock Serializable;
       ending = Ended;
       still = [];
+      stale = [];
     }
     ∷ record {
       session = 1;
@@ -266,6 +281,7 @@ not_waiting_row_is : told not_waiting_row (0 ∷ 2 ∷ [])
       status = Broken;
       ending = lacks (row 1) Share (holds 0 Exclusive ∷ []);
       still = [];
+      stale = [];
     }
     ∷ []
 unfolding get insert keep remove entries empty effect lay

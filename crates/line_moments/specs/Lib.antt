@@ -1,3 +1,5 @@
 pub mod Moments
+pub mod Reads
+pub mod Stale
 pub mod Left
 pub mod Laws

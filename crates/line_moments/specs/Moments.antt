@@ -37,6 +37,7 @@ use Rattle.line_moments.specs.declared.moment.Ending.{Ending}
 use Rattle.line_moments.specs.declared.moment.Ending.TheVariants.{Ended, Awaits, Loses, Lacks}
 use Rattle.line_moments.specs.declared.moment.Still.{Still}
 use Rattle.line_moments.specs.declared.moment.Moment.{Moment}
+use Rattle.line_moments.specs.Stale.{stale_below}
 
 -- ---- who goes, and why, in the order of going
 
@@ -261,6 +262,7 @@ moment_of steps g =
       status = (session_at v i).status;
       ending = ending_by (want_in v i) (refusal_by steps g.world g.cause);
       still = still_below (length v.sessions) i g.world v;
+      stale = stale_below steps (length v.sessions) i g.world v;
     }
 
 -- the moments of the step numbered k, sent

@@ -3,7 +3,9 @@
 
 mod laws;
 mod moment;
+mod reads;
 mod shown;
+mod stale;
 mod table_rows;
 
 pub use laws::{
@@ -14,5 +16,7 @@ pub use laws::{
     still_is_exact, still_waits_are_exact, waiters_go_on, wants_are_exact,
 };
 pub use moment::{Change, Ending, Manner, Moment, Refusal, Still};
+pub use reads::{OpenRead, open_reads};
 pub use shown::{Begun, Left, Shown, Standing};
+pub use stale::{Stale, note_stale};
 pub use table_rows::TableRows;

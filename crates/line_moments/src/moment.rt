@@ -3,6 +3,7 @@
 ghost use Rattle.std.specs.Prelude.{◌≡◌, Some, None};
 ghost use Rattle.line_moments.specs.Moments.{ending_by};
 
+use crate::stale::Stale;
 use events::Transcript;
 use lock_modes::{Mode, Resource};
 use lock_queues::{Edge, Hop, Want};
@@ -129,6 +130,8 @@ pub struct Moment {
     pub ending: Ending,
     /// The others that go on waiting, for other reasons than before, in their order.
     pub still: Items<Still>,
+    /// The reads of the others that it made stale, in the order of their sessions, and of each in the order of reading.
+    pub stale: Items<Stale>,
 }
 
 // Written out and not derived, so that who owns one calls this and does not let its parts go one by one.
@@ -143,6 +146,7 @@ impl Drop for Moment {
             status: _,
             ending: _ending,
             still: _still,
+            stale: _stale,
         } = self;
     }
 }

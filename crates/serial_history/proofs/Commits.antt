@@ -31,9 +31,9 @@ Grows h g = ComeFirst h.commits g.commits
 then-on : (xs ys zs : List Transaction) → ComeFirst xs ys → ComeFirst ys zs → ComeFirst xs zs
 then-on xs ys zs p q = (p.0 ++ q.0, q.1 ∙ ap (λ (l : List Transaction). l ++ q.0) p.1 ∙ append_assoc xs p.0 q.0)
 
-did-on : (st : Bound) (e : Effect) (t : Tally) → Adds t (did st e t)
-did-on st (Gives events writes) t = stays t.commits
-did-on st (Faults f) t = stays t.commits
+did-on : (at : Status) (st : Bound) (e : Effect) (t : Tally) → Adds t (did at st e t)
+did-on at st (Gives events writes) t = stays t.commits
+did-on at st (Faults f) t = stays t.commits
 
 well-on : (t : Tally) → Adds t (ended_well t)
 well-on t = (commit_of t.session t.work, refl)
@@ -48,8 +48,8 @@ by-on Broken Commits s rows st t = stays t.commits
 by-on Outside RollsBack s rows st t = stays t.commits
 by-on (InBlock of) RollsBack s rows st t = stays t.commits
 by-on Broken RollsBack s rows st t = stays t.commits
-by-on Outside Works s rows st t = did-on st (effect st (lay s.overlay rows)) t
-by-on (InBlock of) Works s rows st t = did-on st (effect st (lay s.overlay rows)) t
+by-on Outside Works s rows st t = did-on Outside st (effect st (lay s.overlay rows)) t
+by-on (InBlock of) Works s rows st t = did-on (InBlock of) st (effect st (lay s.overlay rows)) t
 by-on Broken Works s rows st t = stays t.commits
 
 end-on : (status : Status) (t : Tally) → Adds t (tally_end status t)

@@ -1,4 +1,6 @@
 pub mod Commits
+pub mod LockedLines
+pub mod LockedRuns
 pub mod Readings
 pub mod Replays
 pub mod SerialLine

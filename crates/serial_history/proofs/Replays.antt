@@ -212,13 +212,13 @@ module _ (start : Rows') (Others : Rows' → Type 0) (e : Scene) (i : ℕ)
         others = x.others;
       }
 
-  worked-tells : (s : Session) (rows : Rows') (st : Bound) (f : Effect) (t : Tally) → effect st (lay s.overlay rows) ≡ f → TellsWork (is_work st) f
-      → HoldsAll s.held (asked_by st) → Telling s rows t → OnGoes (worked s rows f) (λ s2 rows2. Telling s2 rows2 (did st f t))
-  worked-tells s rows st (Gives events writes) t is tells holds x =
+  worked-tells : (at : Status) (s : Session) (rows : Rows') (st : Bound) (f : Effect) (t : Tally) → effect st (lay s.overlay rows) ≡ f → TellsWork (is_work st) f
+      → HoldsAll s.held (asked_by st) → Telling s rows t → OnGoes (worked s rows f) (λ s2 rows2. Telling s2 rows2 (did at st f t))
+  worked-tells at s rows st (Gives events writes) t is tells holds x =
       record { serial = x.serial; own = by (is_unlocked st) refl; others = x.others }
     where
       new : Did
-      new = record { statement = st; events = events }
+      new = record { status = at; statement = st; events = events }
 
       all : List Did
       all = t.work ++ cond (is_work st) (new ∷ []) []
@@ -243,7 +243,7 @@ module _ (start : Rows') (Others : Rows' → Type 0) (e : Scene) (i : ℕ)
             held = subst (WorkHeld s.held) (sym same)
                 (work-did s.held (locked_work t.work) new (is_work st) x.own.held (subst (HoldsAll s.held) (asked-locked st u) holds));
           }
-  worked-tells s rows st (Faults f) t is tells holds x = tt
+  worked-tells at s rows st (Faults f) t is tells holds x = tt
 
   perform_by-tells : (status : Status) (k : Kind) (s : Session) (rows : Rows') (st : Bound) (t : Tally) → HeldFits e i s.held → UnderLocks s.overlay s.held
       → HoldsAll s.held (asked_by st) → Telling s rows t → OnGoes (perform_by status k s rows st) (λ s2 rows2. Telling s2 rows2 (tally_by status k s rows st t))
@@ -256,9 +256,9 @@ module _ (start : Rows') (Others : Rows' → Type 0) (e : Scene) (i : ℕ)
   perform_by-tells Outside RollsBack s rows st t fits under holds x = let_go s _ rows t refl x
   perform_by-tells (InBlock of) RollsBack s rows st t fits under holds x = let_go s _ rows t refl x
   perform_by-tells Broken RollsBack s rows st t fits under holds x = let_go s _ rows t refl x
-  perform_by-tells Outside Works s rows st t fits under holds x = worked-tells s rows st (effect st (lay s.overlay rows)) t refl
+  perform_by-tells Outside Works s rows st t fits under holds x = worked-tells Outside s rows st (effect st (lay s.overlay rows)) t refl
       (effect-work st (lay s.overlay rows)) holds x
-  perform_by-tells (InBlock of) Works s rows st t fits under holds x = worked-tells s rows st (effect st (lay s.overlay rows)) t refl
+  perform_by-tells (InBlock of) Works s rows st t fits under holds x = worked-tells (InBlock of) s rows st (effect st (lay s.overlay rows)) t refl
       (effect-work st (lay s.overlay rows)) holds x
   perform_by-tells Broken Works s rows st t fits under holds x = tt
 

@@ -137,10 +137,10 @@ module _ (from : Reading) (i : ℕ) (before : List Transaction) where
             ∙ append-nil (commits_of c t.commits) ∙ x.others c ne;
       }
 
-  worked-faithful : (s : Session) (rows : Rows') (st : Bound) (f : Effect) (t : Tally) → TellsWork (is_work st) f → Faithful s t
-      → OnGoes (worked s rows f) (λ s2 rows2. Faithful s2 (did st f t))
-  worked-faithful s rows st (Gives events writes) t h x =
-      let new : Did = record { statement = st; events = events } in
+  worked-faithful : (at : Status) (s : Session) (rows : Rows') (st : Bound) (f : Effect) (t : Tally) → TellsWork (is_work st) f → Faithful s t
+      → OnGoes (worked s rows f) (λ s2 rows2. Faithful s2 (did at st f t))
+  worked-faithful at s rows st (Gives events writes) t h x =
+      let new : Did = record { status = at; statement = st; events = events } in
       record {
         session = x.session;
         reads = did-reads (is_work st) s.status t.work t.ended new writes h ∙ read-more from (reading s t) s.transcript events x.reads;
@@ -149,7 +149,7 @@ module _ (from : Reading) (i : ℕ) (before : List Transaction) where
         owns = x.owns;
         others = x.others;
       }
-  worked-faithful s rows st (Faults f) t h x = tt
+  worked-faithful at s rows st (Faults f) t h x = tt
 
   by-two : (es : List Event) (a b : Event) → (es ++ a ∷ []) ++ b ∷ [] ≡ es ++ (a ∷ b ∷ [])
   by-two es a b = append_assoc es (a ∷ []) (b ∷ [])
@@ -172,8 +172,8 @@ module _ (from : Reading) (i : ℕ) (before : List Transaction) where
       (by-two s.transcript (Warned NoBlock) RolledBack) refl x
   perform_by-faithful (InBlock of) RollsBack s rows st t is x = let_go s _ t (RolledBack ∷ []) refl refl x
   perform_by-faithful Broken RollsBack s rows st t is x = let_go s _ t (RolledBack ∷ []) refl refl x
-  perform_by-faithful Outside Works s rows st t is x = worked-faithful s rows st (effect st (lay s.overlay rows)) t (effect-work st (lay s.overlay rows)) x
-  perform_by-faithful (InBlock of) Works s rows st t is x = worked-faithful s rows st (effect st (lay s.overlay rows)) t (effect-work st (lay s.overlay rows)) x
+  perform_by-faithful Outside Works s rows st t is x = worked-faithful Outside s rows st (effect st (lay s.overlay rows)) t (effect-work st (lay s.overlay rows)) x
+  perform_by-faithful (InBlock of) Works s rows st t is x = worked-faithful (InBlock of) s rows st (effect st (lay s.overlay rows)) t (effect-work st (lay s.overlay rows)) x
   perform_by-faithful Broken Works s rows st t is x = tt
 
   end-faithful : (status : Status) (s : Session) (rows : Rows') (t : Tally) → s.status ≡ status → Faithful s t

@@ -8,12 +8,11 @@ use Rattle.lock_queues.specs.Locks.{waits_now}
 use Rattle.machine_model.specs.Session.{Task, Ask, Do, Session, Performed, Goes, Fails, perform, tasks_of}
 use Rattle.machine_model.specs.Go.{Run, Stop, taking, is_broken, solo, failed, finished_by, stopped, go}
 use Rattle.machine_model.specs.World.{World, fresh, session_at, scene_of, send_all}
-use Rattle.bound_specs.specs.Levels.{AskAlways}
 use Rattle.bound_specs.specs.Spec.{Spec, no_step, IsBound}
 use Rattle.machine_model.specs.Start.{Start, Started, SetupFailed, SessionSetupFailed, SessionSetupWaits, start, set_up, started_then, main_setups}
 use Rattle.machine_model.specs.Start.{session_setups, after_setup, forgotten, has_failed, is_outside, IsAlone, IsIdle}
 use Rattle.serial_history.specs.Serial.{Shown, reading_in, reading_of, session_setups_said, after_setups, AllTell, EndedTell, commits_of, committed_in, Repeats}
-use Rattle.serial_history.specs.Serial.{Told, locked_work, locked_part, History, no_history, goes_told, session_setups_told, first_rows, start_told, send_all_told}
+use Rattle.serial_history.specs.Serial.{Told, IsWhole, locked_work, locked_part, History, no_history, goes_told, session_setups_told, first_rows, start_told, send_all_told}
 use Rattle.serial_history.specs.Reading.{Reading, nothing_read, read}
 use Rattle.events.specs.declared.event.Fault.TheVariants.{Aborted}
 use Rattle.lock_modes.specs.declared.mode.Mode.{Mode}
@@ -29,7 +28,7 @@ use Rattle.machine_model.proofs.Starts.{idle-goes, idle-now, start-sound}
 use Rattle.serial_history.proofs.Readings.{read-append}
 use Rattle.serial_history.proofs.Shown.{goes-shown, line-shown}
 use Rattle.serial_history.proofs.SerialLine.{Heir, heir-told, goes-tells, told-touched, line-tells}
-use Rattle.serial_history.proofs.Wholes.{line-whole, spec-whole, step-always, whole-told}
+use Rattle.serial_history.proofs.Wholes.{whole-told}
 use Rattle.machine_model.proofs.Counts.{bound-fits}
 
 abbrev ClearOutside : Session → Type 0
@@ -75,11 +74,11 @@ no-or true b e = cc
 no-or false true e = refl
 no-or false false e = cc
 
-record SetUp (control n : ℕ) (w : World) : Type 0 where
-  alone : IsAlone control n w
-  clear : (session_at w control).overlay ≡ empty
-  blank : (session_at w control).transcript ≡ []
-  outside : (session_at w control).status ≡ Outside
+pub record SetUp (control n : ℕ) (w : World) : Type 0 where
+  pub alone : IsAlone control n w
+  pub clear : (session_at w control).overlay ≡ empty
+  pub blank : (session_at w control).transcript ≡ []
+  pub outside : (session_at w control).status ≡ Outside
 
 outside-is : (k : Status) → is_outside k ≡ true → k ≡ Outside
 outside-is Outside e = refl
@@ -118,7 +117,7 @@ main-set-up control n k w (block ∷ blocks) lt a =
         rec (ap (λ (x : Session). x.overlay) forgot ∙ alone-clear control n w block lt a.alone out)
         (ap (λ (x : Session). x.status) forgot ∙ outside-is (session_at w2 control).status out)
 
-set-up-is : (spec : Spec) → OnStarted (set_up spec) (SetUp spec.sessions (suc spec.sessions))
+pub set-up-is : (spec : Spec) → OnStarted (set_up spec) (SetUp spec.sessions (suc spec.sessions))
 set-up-is spec = main-set-up spec.sessions (suc spec.sessions) 0 (first_world spec.sessions) spec.setups (omega arith) (record {
   alone = record {
     steady = first-steady spec.sessions;
@@ -322,11 +321,10 @@ bound-heir spec w ks bound e =
     heir-told (first_rows spec) (send_all spec.steps w ks) (send_all_told spec.steps w ks (start_told spec))
     (spec-serial spec w ks bound.session_setups e (bound-fits spec w bound e))
 
--- where each statement asks for its whole plan, nothing is left out
-pub bound-serial : (spec : Spec) (w : World) (ks : List ℕ) → IsBound spec → AskAlways spec → start spec ≡ Started w
+-- where no select asked for no lock nothing is left out
+pub bound-whole : (spec : Spec) (w : World) (ks : List ℕ) → IsBound spec → start spec ≡ Started w → IsWhole (send_all_told spec.steps w ks (start_told spec))
     → Told (first_rows spec) (send_all spec.steps w ks) (send_all_told spec.steps w ks (start_told spec))
-bound-serial spec w ks bound always e =
-    let whole = line-whole spec.steps w ks (start_told spec) (step-always spec.steps always.steps) (spec-whole spec w always e) in
+bound-whole spec w ks bound e whole =
     whole-told (first_rows spec) (send_all spec.steps w ks) (send_all_told spec.steps w ks (start_told spec)) whole
     (spec-serial spec w ks bound.session_setups e (bound-fits spec w bound e))
 

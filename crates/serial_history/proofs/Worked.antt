@@ -38,10 +38,10 @@ abbrev reads : ℕ → Bound
 reads k = Select 0 (Some (number k)) (id_is k) [] (Columns (1 ∷ [])) shares
 
 abbrev one_read : ℕ → ℕ → Did
-one_read k v = record { statement = reads k; events = RowEvent (number v ∷ []) ∷ Rows 1 ∷ [] }
+one_read k v = record { status = InBlock Serializable; statement = reads k; events = RowEvent (number v ∷ []) ∷ Rows 1 ∷ [] }
 
 abbrev one_added : ℕ → ℕ → Did
-one_added k n = record { statement = adds k n; events = Updated 1 ∷ [] }
+one_added k n = record { status = InBlock Serializable; statement = adds k n; events = Updated 1 ∷ [] }
 
 -- ---- the lost update: two sessions add to one row
 
@@ -80,7 +80,7 @@ two_orders =
     ∷ step 1 (adds 2 5) ∷ step 1 (adds 1 5) ∷ record { session = 1; statements = Commit ∷ all_rows ∷ [] } ∷ [])
 
 abbrev last_read : Did
-last_read = record { statement = all_rows; events = RowEvent (number 1 ∷ number 11 ∷ []) ∷ RowEvent (number 2 ∷ number 21 ∷ []) ∷ Rows 2 ∷ [] }
+last_read = record { status = Outside; statement = all_rows; events = RowEvent (number 1 ∷ number 11 ∷ []) ∷ RowEvent (number 2 ∷ number 21 ∷ []) ∷ Rows 2 ∷ [] }
 
 -- who would close the ring is no commit, nor is the end of its block; what it reads behind that is
 two_orders_commits : commits two_orders (0 ∷ 3 ∷ 1 ∷ 4 ∷ 2 ∷ 5 ∷ [])
@@ -108,11 +108,11 @@ three_row =
     }
 
 abbrev first_read : Did
-first_read = record { statement = all_rows; events = RowEvent (number 1 ∷ number 10 ∷ []) ∷ RowEvent (number 2 ∷ number 20 ∷ []) ∷ Rows 2 ∷ [] }
+first_read = record { status = InBlock Serializable; statement = all_rows; events = RowEvent (number 1 ∷ number 10 ∷ []) ∷ RowEvent (number 2 ∷ number 20 ∷ []) ∷ Rows 2 ∷ [] }
 
 -- the commits are the reader's and then the writer's, and nothing else
 three_row_commits : commits three_row (0 ∷ 2 ∷ 4 ∷ 3 ∷ 1 ∷ [])
-    ≡ record { session = 1; work = first_read ∷ [] } ∷ record { session = 2; work = record { statement = sets 2 5; events = Updated 1 ∷ [] } ∷ [] } ∷ []
+    ≡ record { session = 1; work = first_read ∷ [] } ∷ record { session = 2; work = record { status = Outside; statement = sets 2 5; events = Updated 1 ∷ [] } ∷ [] } ∷ []
 unfolding get insert keep remove entries empty effect lay
 three_row_commits = refl
 
@@ -158,10 +158,10 @@ idle_row_read = refl
 
 -- what was read and written of the row with key 1
 abbrev read_of : ℕ → Did
-read_of v = record { statement = plain; events = RowEvent (number v ∷ []) ∷ Rows 1 ∷ [] }
+read_of v = record { status = InBlock Committed; statement = plain; events = RowEvent (number v ∷ []) ∷ Rows 1 ∷ [] }
 
 abbrev set_to : ℕ → Did
-set_to v = record { statement = sets 1 v; events = Updated 1 ∷ [] }
+set_to v = record { status = InBlock Committed; statement = sets 1 v; events = Updated 1 ∷ [] }
 
 -- ---- READ COMMITTED: both read, then both write, and an update is lost
 
@@ -176,8 +176,11 @@ lost_part : map locked_commit (commits (level_row Committed) (0 ∷ 3 ∷ 1 ∷ 
 unfolding get insert keep remove entries empty effect lay
 lost_part = refl
 
+abbrev at_serializable : Did → Did
+at_serializable d = record d { status = InBlock Serializable }
+
 -- a block at SERIALIZABLE beside one at READ COMMITTED keeps what it read
 kept_part : map locked_commit (commits (level_row Serializable) (0 ∷ 3 ∷ 4 ∷ 5 ∷ 1 ∷ 2 ∷ []))
-    ≡ record { session = 1; work = record (read_of 10) { statement = at_level Serializable plain } ∷ set_to 12 ∷ [] } ∷ record { session = 0; work = set_to 11 ∷ [] } ∷ []
+    ≡ record { session = 1; work = at_serializable (record (read_of 10) { statement = at_level Serializable plain }) ∷ at_serializable (set_to 12) ∷ [] } ∷ record { session = 0; work = set_to 11 ∷ [] } ∷ []
 unfolding get insert keep remove entries empty effect lay
 kept_part = refl

@@ -1,14 +1,13 @@
 -- The laws of histories.
-use Rattle.std.specs.Prelude.{◌≡◌, ℕ, List, ◌++◌, get_or, All}
-use Rattle.bound_statements.specs.Levels.{AsksAlways}
+use Rattle.std.specs.Prelude.{◌≡◌, ℕ, List, ◌++◌}
 use Rattle.bound_specs.specs.Levels.{AskAlways}
-use Rattle.bound_specs.specs.Spec.{Spec, Step, no_step, IsBound}
+use Rattle.bound_specs.specs.Spec.{Spec, Step, IsBound}
 use Rattle.machine_model.specs.Start.{Started, start}
 use Rattle.machine_model.specs.Session.{Session, Task}
 use Rattle.machine_model.specs.World.{World, send_all}
 use Rattle.machine_model.specs.Sound.{Sound}
 use Rattle.lock_modes.specs.Rows.{Rows'}
-use Rattle.serial_history.specs.Serial.{History, Transaction, Told, IsWhole, locked_part, Shown, after_setups, goes_told, settle_told, send_all_told, first_rows, start_told}
+use Rattle.serial_history.specs.Serial.{History, Transaction, Told, IsWhole, KeepsSerializable, locked_part, Shown, after_setups, goes_told, settle_told, send_all_told, first_rows, start_told}
 use Rattle.serial_history.specs.Reading.{Reading, read, told_in, data_of}
 use Rattle.events.specs.declared.event.Event.{Event}
 use Rattle.machine_model.specs.Laws.{IsOf}
@@ -26,20 +25,28 @@ SpecsHaveHeirs =
     (spec : Spec) (w : World) (ks : List ℕ) → IsBound spec → start spec ≡ Started w
     → Told (first_rows spec) (send_all spec.steps w ks) (locked_part (send_all_told spec.steps w ks (start_told spec)))
 
--- where each statement asks for its whole plan, nothing is left out: the commits of a line, run one after another without locks, give their events and
--- leave the line's rows, and the open transactions run again give their events and overlays
+-- where no select asked for no lock, nothing is left out: the commits of a line, run one after another without locks, give their events and leave the line's
+-- rows, and the open transactions run again give their events and overlays
 abbrev pub LinesAreSerial : Type 0
 LinesAreSerial =
-    (start : Rows') (steps : List Step) (w : World) (ks : List ℕ) (h : History) → Sound w → ((k : ℕ) → IsOf steps w k)
-    → ((k : ℕ) → All AsksAlways (get_or steps k no_step).statements) → IsWhole w h → Told start w h
-    → Told start (send_all steps w ks) (send_all_told steps w ks h)
+    (start : Rows') (steps : List Step) (w : World) (ks : List ℕ) (h : History) → Sound w → ((k : ℕ) → IsOf steps w k) → Told start w (locked_part h)
+    → IsWhole (send_all_told steps w ks h) → Told start (send_all steps w ks) (send_all_told steps w ks h)
 
--- from the start of a spec, as where levels are not asked for: the commits of a line, those of session setups included, are a serial run from the rows
--- after the main setups, and the open transactions run again
+-- from the start of a spec: the same, with the commits of session setups, from the rows after the main setups
 abbrev pub SpecsAreSerial : Type 0
 SpecsAreSerial =
-    (spec : Spec) (w : World) (ks : List ℕ) → IsBound spec → AskAlways spec → start spec ≡ Started w
+    (spec : Spec) (w : World) (ks : List ℕ) → IsBound spec → start spec ≡ Started w → IsWhole (send_all_told spec.steps w ks (start_told spec))
     → Told (first_rows spec) (send_all spec.steps w ks) (send_all_told spec.steps w ks (start_told spec))
+
+-- no select asks for no lock where each statement of a spec asks for its whole plan, as where levels are not asked for
+abbrev pub LockedSpecsAreWhole : Type 0
+LockedSpecsAreWhole =
+    (spec : Spec) (w : World) (ks : List ℕ) → IsBound spec → AskAlways spec → start spec ≡ Started w → IsWhole (send_all_told spec.steps w ks (start_told spec))
+
+-- whatever level the others have, nothing is left out of a transaction at SERIALIZABLE
+abbrev pub SerializableStaysWhole : Type 0
+SerializableStaysWhole =
+    (spec : Spec) (w : World) (ks : List ℕ) → IsBound spec → start spec ≡ Started w → KeepsSerializable (send_all_told spec.steps w ks (start_told spec))
 
 -- these commits stand first, in their order, and the others come behind them
 abbrev pub ComeFirst : List Transaction → List Transaction → Type 0

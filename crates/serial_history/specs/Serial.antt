@@ -3,7 +3,7 @@
 use Rattle.std.specs.Prelude.{◌≡◌, ◌≢◌, ℕ, zero, suc, Bool, true, false, cond, ◌==◌, List, [], ◌∷◌, ◌++◌, length, map, replicate, set, get_or, Some, None}
 use Rattle.finite_maps.specs.Map.{empty}
 use Rattle.lock_queues.specs.Locks.{Spot, next_grant, waits_now}
-use Rattle.machine_model.specs.Footprint.{EachDo}
+use Rattle.lock_queues.specs.Reasons.{Among}
 use Rattle.machine_model.specs.Sound.{HoldsAll}
 use Rattle.bound_statements.specs.Levels.{is_unlocked}
 use Rattle.bound_statements.specs.Plan.{plan}
@@ -25,8 +25,9 @@ use Rattle.bound_statements.specs.declared.statement.Bound.{Bound}
 use Rattle.bound_statements.specs.declared.statement.Bound.TheVariants.{Select, Insert, Update, Delete, Begin, Commit, Rollback, Lock, SetVariable}
 use Rattle.serial_history.specs.Reading.{Closed, Reading, nothing_read, read}
 
--- a statement that was done, and what it told
+-- a statement that was done where its session stood so with its block, and what it told
 pub record Did : Type 0 where
+  pub status : Status
   pub statement : Bound
   pub events : List Event
 
@@ -84,15 +85,15 @@ abbrev pub dropped : Tally → Tally
 dropped t = record { session = t.session; work = []; ended = t.ended ++ ended_with false t.work; commits = t.commits }
 
 -- with a statement done, which counts where it is work
-abbrev pub did : Bound → Effect → Tally → Tally
-did st (Gives events writes) t =
+abbrev pub did : Status → Bound → Effect → Tally → Tally
+did x st (Gives events writes) t =
     record {
       session = t.session;
-      work = t.work ++ cond (is_work st) (record { statement = st; events = events } ∷ []) [];
+      work = t.work ++ cond (is_work st) (record { status = x; statement = st; events = events } ∷ []) [];
       ended = t.ended;
       commits = t.commits;
     }
-did st (Faults f) t = t
+did x st (Faults f) t = t
 
 -- the tally after a statement that goes
 abbrev pub tally_by : Status → Kind → Session → Rows' → Bound → Tally → Tally
@@ -105,8 +106,8 @@ tally_by Broken Commits s rows st t = dropped t
 tally_by Outside RollsBack s rows st t = dropped t
 tally_by (InBlock of) RollsBack s rows st t = dropped t
 tally_by Broken RollsBack s rows st t = dropped t
-tally_by Outside Works s rows st t = did st (effect st (lay s.overlay rows)) t
-tally_by (InBlock of) Works s rows st t = did st (effect st (lay s.overlay rows)) t
+tally_by Outside Works s rows st t = did Outside st (effect st (lay s.overlay rows)) t
+tally_by (InBlock of) Works s rows st t = did (InBlock of) st (effect st (lay s.overlay rows)) t
 tally_by Broken Works s rows st t = t
 
 -- the tally at the end of a step
@@ -213,20 +214,37 @@ abbrev pub WorkHeld : Held → List Did → Type 0
 WorkHeld h [] = Unit {0}
 WorkHeld h (d ∷ ds) = HoldsAll h (plan d.statement) × WorkHeld h ds
 
--- none of the work is a select that asked for no lock
-abbrev pub AllLocked : List Did → Type 0
-AllLocked [] = Unit {0}
-AllLocked (d ∷ ds) = (is_unlocked d.statement ≡ false) × AllLocked ds
+-- of what was done where a session stood so with its block, none is a select that asked for no lock
+abbrev pub AllLocked : (Status → Type 0) → List Did → Type 0
+AllLocked At [] = Unit {0}
+AllLocked At (d ∷ ds) = (At d.status → is_unlocked d.statement ≡ false) × AllLocked At ds
 
-abbrev pub CommitsLocked : List Transaction → Type 0
-CommitsLocked [] = Unit {0}
-CommitsLocked (t ∷ ts) = AllLocked t.work × CommitsLocked ts
+abbrev pub CommitsLocked : (Status → Type 0) → List Transaction → Type 0
+CommitsLocked At [] = Unit {0}
+CommitsLocked At (t ∷ ts) = AllLocked At t.work × CommitsLocked At ts
 
--- nothing that is done, or is left of a step, is a select that asks for no lock
-pub record IsWhole (w : World) (h : History) : Type 0 where
-  pub rests : (c : ℕ) → EachDo (λ st. is_unlocked st ≡ false) (session_at w c).rest
-  pub works : (c : ℕ) → AllLocked (get_or h.works c [])
-  pub commits : CommitsLocked h.commits
+-- wherever it stood
+abbrev pub Anywhere : Status → Type 0
+Anywhere x = Unit {0}
+
+-- in a block at SERIALIZABLE
+abbrev pub AtSerializable : Status → Type 0
+AtSerializable x = x ≡ InBlock Serializable
+
+-- nothing that is open or was committed is a select that asked for no lock
+pub record IsWhole (h : History) : Type 0 where
+  pub works : (c : ℕ) → AllLocked Anywhere (get_or h.works c [])
+  pub commits : CommitsLocked Anywhere h.commits
+
+-- all of the work was done in a block at SERIALIZABLE
+abbrev pub IsSerializable : List Did → Type 0
+IsSerializable [] = Unit {0}
+IsSerializable (d ∷ ds) = AtSerializable d.status × IsSerializable ds
+
+-- of a transaction whose work was all done in a block at SERIALIZABLE nothing is left out, be it committed or open
+pub record KeepsSerializable (h : History) : Type 0 where
+  pub works : (c : ℕ) → IsSerializable (get_or h.works c []) → locked_work (get_or h.works c []) ≡ get_or h.works c []
+  pub commits : (t : Transaction) → Among t h.commits → IsSerializable t.work → locked_commit t ≡ t
 
 -- what it did in its open transaction gives the same again over the rows as they are
 pub record Repeats (rows : Rows') (s : Session) (work : List Did) : Type 0 where

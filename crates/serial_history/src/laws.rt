@@ -1,9 +1,9 @@
 //! The laws of histories, each the contract of a function that does nothing.
 
-ghost use Rattle.serial_history.specs.Laws.{CommitsStayInOrder, LinesAreSerial, LinesHaveHeirs, SpecsAreSerial, SpecsHaveHeirs, HistoriesShow, SpecsShow, ReadingsKeepData};
+ghost use Rattle.serial_history.specs.Laws.{CommitsStayInOrder, LinesAreSerial, LinesHaveHeirs, LockedSpecsAreWhole, SerializableStaysWhole, SpecsAreSerial, SpecsHaveHeirs, HistoriesShow, SpecsShow, ReadingsKeepData};
 
 /// Without the selects that asked for no lock, as plain ones at READ COMMITTED do, every line is a serial run of its commits, and its open transactions run
-/// again. A transaction without such a select is whole in it, whatever level the others have.
+/// again.
 pub fn lines_have_heirs()
     ensures { LinesHaveHeirs }
 {}
@@ -13,14 +13,25 @@ pub fn specs_have_heirs()
     ensures { SpecsHaveHeirs }
 {}
 
-/// Where each statement asks for its whole plan, every line is a serial run of its commits, and its open transactions run again.
+/// Where no select asked for no lock, every line is a serial run of its commits, and its open transactions run again.
 pub fn lines_are_serial()
     ensures { LinesAreSerial }
 {}
 
-/// From the start of a spec whose statements ask for their whole plans, every line is a serial run of its commits, and its open transactions run again.
+/// The same from the start of a spec.
 pub fn specs_are_serial()
     ensures { SpecsAreSerial }
+{}
+
+/// No select asks for no lock where each statement of the spec asks for its whole plan, as where levels are not asked for.
+pub fn locked_specs_are_whole()
+    ensures { LockedSpecsAreWhole }
+{}
+
+/// Whatever level the others have, nothing is left out of a transaction all of whose work was done in a block at SERIALIZABLE: it is whole in the serial
+/// run of `specs_have_heirs`.
+pub fn serializable_stays_whole()
+    ensures { SerializableStaysWhole }
 {}
 
 /// All commits stand in the order in which they come: those of a line's front first, and within a step those of the session that goes on, and then those

@@ -4,6 +4,7 @@
 mod laws;
 
 pub use laws::{
-    histories_show, lines_are_serial, lines_have_heirs, readings_keep_data, specs_are_serial,
+    commits_stay_in_order, histories_show, lines_are_serial, lines_have_heirs,
+    locked_specs_are_whole, readings_keep_data, serializable_stays_whole, specs_are_serial,
     specs_have_heirs, specs_show,
 };

@@ -18,13 +18,14 @@ use Rattle.line_moments.specs.declared.moment.Manner.{Manner}
 use Rattle.line_moments.specs.declared.moment.Manner.TheVariants.{IsResumed}
 use Rattle.line_moments.specs.declared.moment.Moment.{Moment}
 use Rattle.line_moments.specs.declared.moment.Still.{Still}
+use Rattle.line_moments.specs.declared.stale.Stale.{Stale}
 use Rattle.session_steps.specs.declared.point.Rest.{Rest}
 use Rattle.session_steps.specs.Stage.{Staged}
 use Rattle.session_steps.specs.declared.point.Point.{Point}
 use Rattle.session_machine.specs.declared.trace.Trace.{Trace}
 use Rattle.session_steps.specs.Going.{Standing, standing, tasks_from}
 use Rattle.session_machine.specs.Tracing.{Traces}
-use Rattle.session_machine.specs.Telling.{still_told, told_since, moment_told, had_of, IsTold, IsResumedSo}
+use Rattle.session_machine.specs.Telling.{still_told, stale_told, told_since, moment_told, had_of, IsTold, IsResumedSo}
 use Rattle.session_steps.specs.Stage.{statements_of, member_at, IsStage}
 use Rattle.session_steps.proofs.Stages.{session-known}
 use Rattle.session_steps.proofs.States.{same-taken}
@@ -58,8 +59,8 @@ traces-at m n i cs ds x y sts uts p q trace e f g h k traces =
     (subst (λ (c : Point). Traces m i cs x (tasks_from x.own.status (drop c.statement sts) c.request) trace) k traces))))
 
 -- a moment that tells this is the one that is told
-pub told-is : (m n : ℕ) (x y : Staged) (i : ℕ) (manner : Manner) (step : Option ℕ) (trace : Trace) (es : List Event) (ss : List Still) (moment : Moment) → m ≡ n
-    → es ≡ told_since i x y → ss ≡ still_told m m i x.locks y.locks
+pub told-is : (steps : List Step) (m n : ℕ) (x y : Staged) (i : ℕ) (manner : Manner) (step : Option ℕ) (trace : Trace) (es : List Event) (ss : List Still) (rs : List Stale)
+    (moment : Moment) → m ≡ n → es ≡ told_since i x y → ss ≡ still_told m m i x.locks y.locks → rs ≡ stale_told steps m i x y
     → moment ≡ record {
       session = i;
       manner = manner;
@@ -69,9 +70,10 @@ pub told-is : (m n : ℕ) (x y : Staged) (i : ℕ) (manner : Manner) (step : Opt
       status = (member_at y i).state.status;
       ending = ending_by (want_of m (look_in y.locks) y.locks.waits i) trace.refusal;
       still = ss;
+      stale = rs;
     }
-    → moment ≡ moment_told n x y i manner step trace
-told-is m n x y i manner step trace es ss moment e f g is = is ∙ (λ k. record {
+    → moment ≡ moment_told steps n x y i manner step trace
+told-is steps m n x y i manner step trace es ss rs moment e f g h is = is ∙ (λ k. record {
   session = i;
   manner = manner;
   step = step;
@@ -80,18 +82,19 @@ told-is m n x y i manner step trace es ss moment e f g is = is ∙ (λ k. record
   status = (member_at y i).state.status;
   ending = ending_by (want_of (e k) (look_in y.locks) y.locks.waits i) trace.refusal;
   still = (g ∙ ap (λ c. still_told c c i x.locks y.locks) e) k;
+  stale = (h ∙ ap (λ c. stale_told steps c i x y) e) k;
 })
 
 -- of the session whose wait was granted
 pub resumed-so : (count : ℕ) (steps : List Step) (x y : Staged) (s : Spot) (m : Moment) (i : ℕ) (rest : Rest) → s.wait.session ≡ i
     → (member_at x i).rest ≡ Some rest
-    → IsTold count x y i IsResumed (last_sent None (member_at x i).state.transcript) (had_of (wait_of x.locks i))
+    → IsTold steps count x y i IsResumed (last_sent None (member_at x i).state.transcript) (had_of (wait_of x.locks i))
     (standing x.store (grant x.locks s) (record { status = (member_at x i).state.status; transcript = Resumed ∷ [] }))
     (tasks_from (member_at x i).state.status (drop rest.point.statement (statements_of steps rest.step)) rest.point.request) m
     → IsResumedSo count steps x y s m
 resumed-so count steps x y s m i rest same =
     subst (λ j. (member_at x j).rest ≡ Some rest
-    → IsTold count x y j IsResumed (last_sent None (member_at x j).state.transcript) (had_of (wait_of x.locks j))
+    → IsTold steps count x y j IsResumed (last_sent None (member_at x j).state.transcript) (had_of (wait_of x.locks j))
     (standing x.store (grant x.locks s) (record { status = (member_at x j).state.status; transcript = Resumed ∷ [] }))
     (tasks_from (member_at x j).state.status (drop rest.point.statement (statements_of steps rest.step)) rest.point.request) m
     → IsResumedSo count steps x y s m) same (λ there told. record { rest = rest; there = there; told = told })

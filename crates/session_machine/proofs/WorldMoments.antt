@@ -26,6 +26,9 @@ use Rattle.machine_model.proofs.SettleSteps.{next_in}
 use Rattle.line_moments.specs.Moments.{Cause, Sends, GoesOn, Skips, behind_by, settle_goings, moments, moment_of, want_in, edges_in, still_below}
 use Rattle.line_moments.specs.Moments.{changed_edges, ending_by, session_by, manner_by, step_by, events_by, changes_by, refusal_by, told_only, holding, without}
 use Rattle.line_moments.specs.Moments.{go_changes, go_refusal, last_sent}
+use Rattle.line_moments.specs.Reads.{open_reads}
+use Rattle.line_moments.specs.Stale.{stale_of, stale_in, stale_below}
+use Rattle.row_tables.specs.Overlay.{lay}
 use Rattle.line_moments.specs.Left.{begun, standings, standing_by}
 use Rattle.line_moments.specs.declared.moment.Change.TheVariants.{Had}
 use Rattle.line_moments.specs.declared.moment.Manner.TheVariants.{IsSent, IsNotSent}
@@ -36,7 +39,7 @@ use Rattle.session_steps.specs.State.{Own, session_of}
 use Rattle.session_steps.specs.Going.{session_in, tasks_from}
 use Rattle.session_machine.specs.Tracing.{IsSceneOf}
 use Rattle.session_steps.specs.Stage.{Member, Staged, no_member, statements_of, rest_of, own_of, world_in, member_at, IsStage, note_member, HasTold, HasStarted}
-use Rattle.session_machine.specs.Telling.{edges_told, still_told, told_since, moment_told, no_trace, had_of, IsTold, sent_standing, resumed_standing, IsResumedSo}
+use Rattle.session_machine.specs.Telling.{edges_told, still_told, stale_since, stale_told, told_since, moment_told, no_trace, had_of, IsTold, sent_standing, resumed_standing, IsResumedSo}
 use Rattle.session_machine.specs.Telling.{moment_in, settling}
 use Rattle.session_machine.specs.Showing.{begun_in, standings_in}
 use Rattle.session_steps.proofs.Stages.{get_or-owns, none-rests, session-known}
@@ -68,13 +71,26 @@ module _ (steps : List Step) (n : ℕ) where
       session_at-is s.store s.locks (map (own_of steps) s.members) i (subst (λ k. i < k) (sym (length-map s.members (own_of steps))) lt)
       ∙ ap (session_of s.store s.locks i) (get_or-owns steps s.members i)
 
+  -- who is on the stage sees what it sees in the world
+  stale-here : (x y : Staged) → length x.members ≡ n → length y.members ≡ n → (c : ℕ) → c < n
+      → stale_in steps c (world_in steps x) (world_in steps y) ≡ stale_since steps c x y
+  stale-here x y cx cy c lt = λ k.
+      let there = at-session x c (subst (λ m. c < m) (sym cx) lt) in
+      let then = at-session y c (subst (λ m. c < m) (sym cy) lt) in
+      stale_of steps c (lay (there k).overlay x.store.committed) (lay (then k).overlay y.store.committed) (open_reads (there k).status (there k).transcript)
+
+  stale-told : (x y : Staged) → length x.members ≡ n → length y.members ≡ n → (i m : ℕ) → m ≤ n
+      → stale_below steps m i (world_in steps x) (world_in steps y) ≡ stale_told steps m i x y
+  stale-told x y cx cy i zero le = refl
+  stale-told x y cx cy i (suc m) le = λ k. stale-told x y cx cy i m (omega arith) k ++ cond (m == i) [] (stale-here x y cx cy m (omega arith) k)
+
   -- what is told is the moment, by its parts
   moment-is : (x y : Staged) → IsStage steps x → IsStage steps y → length x.members ≡ n → length y.members ≡ n → (cause : Cause) (i : ℕ)
       (step : Option ℕ) (trace : Trace) → i < n
       → world_in steps y ≡ behind_by steps (world_in steps x) cause → i ≡ session_by steps cause → step ≡ step_by (world_in steps x) cause
       → told_since i x y ≡ events_by steps (world_in steps x) cause → trace.changes ≡ changes_by steps (world_in steps x) cause
       → trace.refusal ≡ refusal_by steps (world_in steps x) cause
-      → moment_told n x y i (manner_by cause) step trace ≡ moment_in steps x cause
+      → moment_told steps n x y i (manner_by cause) step trace ≡ moment_in steps x cause
   moment-is x y sx sy cx cy cause i step trace lt world is which events changes refused =
       let w = world_in steps x in
       let v = world_in steps y in
@@ -89,6 +105,8 @@ module _ (steps : List Step) (n : ℕ) where
         ending = ending_by ((sym (want-in y sy cy i) ∙ (λ k. want_in (world k) (is k))) j) (refused j);
         still = (sym (still-in x y sx sy cx cy i n) ∙ ap (λ m. still_below m i w v) (sym (length-world steps y ∙ cy))
             ∙ (λ k. still_below (length (world k).sessions) (is k) w (world k))) j;
+        stale = (sym (stale-told x y cx cy i n (omega arith)) ∙ ap (λ m. stale_below steps m i w v) (sym (length-world steps y ∙ cy))
+            ∙ (λ k. stale_below steps (length (world k).sessions) (is k) w (world k))) j;
       }
 
 -- ---- events
@@ -118,7 +136,7 @@ pub skipped-is : (steps : List Step) (n : ℕ) (x y : Staged) (k i : ℕ) → Is
     → length y.members ≡ n → i < n
     → i ≡ (get_or steps k no_step).session → HasTold i (NotSent k) x y → world_in steps y ≡ send steps (world_in steps x) k
     → waits_now x.locks.waits i ≡ true
-    → moment_told n x y i IsNotSent (Some k) no_trace ≡ moment_in steps x (Skips k)
+    → moment_told steps n x y i IsNotSent (Some k) no_trace ≡ moment_in steps x (Skips k)
 skipped-is steps n x y k i sx sy cx cy lt is told sent waits =
     let there : member_at y i ≡ note_member (member_at x i) (NotSent k) = ap (λ (ms : List Member). get_or ms i no_member) told.members
     ∙ get_or-set_same x.members i (note_member (member_at x i) (NotSent k)) no_member (subst (λ m. i < m) (sym cx) lt) in
@@ -195,7 +213,7 @@ module _ (steps : List Step) (n : ℕ) (x y : Staged) (sx : IsStage steps x) (sy
     sent-tasks = tasks_from-start (member_at x i).state.status (statements_of steps k)
         ∙ ap (λ (s : Session). tasks_of s.status (statements_of steps k)) (standing-is ∙ ap (λ c. told_only (session_at w c) (Sent k)) is)
 
-    pub sent-is : (m : Moment) → IsTold n x y i IsSent (Some k) [] (sent_standing x i k)
+    pub sent-is : (m : Moment) → IsTold steps n x y i IsSent (Some k) [] (sent_standing x i k)
         (tasks_from (member_at x i).state.status (drop 0 (statements_of steps k)) 0) m
         → m ≡ moment_in steps x (Sends k)
     sent-is m told =

@@ -9,6 +9,7 @@ mod moments;
 mod runs;
 mod showing;
 mod stage;
+mod stale;
 mod telling;
 mod trace;
 mod world;

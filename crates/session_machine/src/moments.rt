@@ -19,7 +19,7 @@ use crate::telling::{events_behind, had_of, last_step, still_of};
 use crate::trace::{Trace, trace_on};
 use bound_specs::Spec;
 use events::{Event, Log, Transcript};
-use line_moments::{Ending, Manner, Moment, Still};
+use line_moments::{Ending, Manner, Moment, Stale, Still};
 use session_steps::{Point, Stage, resume, start_step};
 use sqlite_items::Items;
 use std::alloc::{AllocError, Global};
@@ -43,6 +43,7 @@ impl SharedStage {
         step: Option<u8>,
         events: Transcript,
         still: Items<Still>,
+        stale: Items<Stale>,
         trace: Trace,
     ) -> Result<Moment, AllocError>
         requires { session < length self.now.members.items }
@@ -56,6 +57,7 @@ impl SharedStage {
               status = (member_at (staged_of self.now) session).state.status;
               ending = moments.ending_by (want_of count (look_in self.now.locks) self.now.locks.waits session) trace.refusal;
               still = still;
+              stale = stale;
             }) }
     {
         let want = self.locks.want_of(alloc, session, count)?;
@@ -69,6 +71,7 @@ impl SharedStage {
             status: self.status(session),
             ending: Ending::new(want, refusal),
             still,
+            stale,
         })
     }
 
@@ -85,14 +88,15 @@ impl SharedStage {
         requires count { length before.now.members.items ≡ suc spec.now.run.sessions }
         requires told { HasTold session (event.NotSent step) (staged_of before.now) (staged_of self.now) }
         ensures { IfOk result (λ moment. moment
-            ≡ telling.moment_told (suc spec.now.run.sessions) (staged_of before.now) (staged_of self.now) session Manner.IsNotSent (Some step) telling.no_trace) }
+            ≡ telling.moment_told spec.now.run.steps (suc spec.now.run.sessions) (staged_of before.now) (staged_of self.now) session Manner.IsNotSent (Some step) telling.no_trace) }
     {
         let count = spec.sessions() + 1;
         let still = still_of(alloc, &before.locks, &self.locks, session, count)?;
+        let stale = self.stale_since(alloc, spec, before, session, count)?;
         let events = events_behind(alloc, before.log(session), self.log(session))?;
         let trace = Trace::of(Items::new(alloc));
         let manner = Manner::IsNotSent;
-        self.moment(
+        let moment = self.moment(
             alloc,
             count,
             session,
@@ -100,8 +104,10 @@ impl SharedStage {
             Some(step),
             events,
             still,
+            stale,
             trace,
-        )
+        )?;
+        Ok(moment)
     }
 
     /// The moment of a session that went on in a step, which came to this stage from that one.
@@ -120,11 +126,12 @@ impl SharedStage {
         requires same { length self.now.members.items ≡ length before.members.items }
         requires sender { session ≡ (get_or spec.now.run.steps step no_step).session }
         requires idle { locks.waits_now before.locks.waits session ≡ false }
-        ensures { IfOk result (telling.IsTold (suc spec.now.run.sessions) (staged_of before) (staged_of self.now) session Manner.IsSent (Some step) []
+        ensures { IfOk result (telling.IsTold spec.now.run.steps (suc spec.now.run.sessions) (staged_of before) (staged_of self.now) session Manner.IsSent (Some step) []
             (telling.sent_standing (staged_of before) session step) (tasks_from (member_at (staged_of before) session).state.status (drop 0 (statements_of spec.now.run.steps step)) 0)) }
     {
         let count = spec.sessions() + 1;
         let still = still_of(alloc, &before.locks, &self.locks, session, count)?;
+        let stale = self.stale_since(alloc, spec, &before, session, count)?;
         let events = events_behind(alloc, before.log(session), self.log(session))?;
         before.forget(session)?;
         before.tell(session, Event::Sent(step))?;
@@ -146,6 +153,7 @@ impl SharedStage {
             Some(step),
             events,
             still,
+            stale,
             trace,
         )?;
         Ok(moment)
@@ -169,6 +177,7 @@ impl SharedStage {
     {
         let count = spec.sessions() + 1;
         let still = still_of(alloc, &before.locks, &self.locks, session, count)?;
+        let stale = self.stale_since(alloc, spec, &before, session, count)?;
         let events = events_behind(alloc, before.log(session), self.log(session))?;
         let step = last_step(before.log(session))?;
         let changes = had_of(alloc, &before.locks, session)?;
@@ -188,7 +197,9 @@ impl SharedStage {
             changes,
         )?;
         let manner = Manner::IsResumed;
-        let moment = self.moment(alloc, count, session, manner, step, events, still, trace)?;
+        let moment = self.moment(
+            alloc, count, session, manner, step, events, still, stale, trace,
+        )?;
         Ok(moment)
     }
 }

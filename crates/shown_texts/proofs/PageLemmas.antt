@@ -23,7 +23,8 @@ use Rattle.shown_texts.specs.Pages.{heads, key_lines, key_text, lanes_part, left
 use Rattle.shown_texts.specs.Pages.{legend, legend_from, legend_item, legend_line, meaning_if, or_nothing, part}
 use Rattle.shown_texts.specs.Pages.{plain_lines, rest_part, row_lines, shown_shortened, standing_from}
 use Rattle.shown_texts.specs.Pages.{standing_lines, standing_text, stands, step_room, table_head}
-use Rattle.shown_texts.specs.Pages.{table_lines, title, top_lines, values_text, waiting_from, waiting_lines, waiting_text}
+use Rattle.shown_texts.specs.Words.{values_text}
+use Rattle.shown_texts.specs.Pages.{table_lines, title, top_lines, waiting_from, waiting_lines, waiting_text}
 use Rattle.shown_texts.specs.Laws.{IsNarrow, IsSmall, IsWithin}
 use Rattle.shown_texts.specs.declared.frame.Frame.{Frame}
 use Rattle.shown_texts.specs.declared.lane.Cell.{Cell}

@@ -15,7 +15,9 @@ use Rattle.shown_texts.specs.Breaking.{broken}
 use Rattle.shown_texts.specs.Words.{hop_text, reason_text, ring_text, want_text}
 use Rattle.shown_texts.specs.Lanes.{all_rows, cell, cell_at, event_notes, fault_notes, first_rows, height, hop_notes, joined, joined_notes}
 use Rattle.shown_texts.specs.Lanes.{lane, lane_row, lanes_from, left_at, left_by, moment_rows, note, or_done, other_lane, own_lane, own_notes, rail_behind}
-use Rattle.shown_texts.specs.Lanes.{reason_note, ring_notes, still_notes, toned_notes, tone, wait_notes, want_notes, width, words}
+use Rattle.shown_texts.specs.Stale.{stale_text}
+use Rattle.line_moments.specs.declared.stale.Stale.{Stale}
+use Rattle.shown_texts.specs.Lanes.{reason_note, ring_notes, stale_notes, still_notes, toned_notes, tone, wait_notes, want_notes, width, words}
 use Rattle.shown_texts.specs.Laws.{IsWithin}
 use Rattle.shown_texts.specs.declared.frame.Frame.{Frame}
 use Rattle.shown_texts.specs.declared.lane.Cell.{Cell}
@@ -106,6 +108,11 @@ module _ (f : Frame) (room : 18 ≤ f.column) where
       all-cond (IsSlim f) (still.session == session) (flat_map (reason_note f rail (codes "now ")) still.edges) []
       (all-flat (IsSlim f) (reason_note f rail (codes "now ")) (reason-slim rail (codes "now ")) still.edges) tt
 
+  stale-slim : (steps : List (List ℕ)) (writer session rail : ℕ) (stale : Stale) → AllByRecursion (IsSlim f) (stale_notes f steps writer session rail stale)
+  stale-slim steps writer session rail stale =
+      all-cond (IsSlim f) (stale.session == session) (note f rail 2 (stale_text f steps writer stale)) []
+      (note-slim rail 2 (stale_text f steps writer stale) (omega arith)) tt
+
   -- ---- the lanes beside each other
 
   abbrev IsSlimLane : Lane → Type 0
@@ -117,8 +124,10 @@ module _ (f : Frame) (room : 18 ≤ f.column) where
 
   lane-slim : (steps : List (List ℕ)) (m : Moment) (session rail : ℕ) → IsSlimLane (lane f steps m session rail)
   lane-slim steps m session rail =
-      which (m.session == session) (own_lane f steps m) (other_lane f m session rail) (own-slim steps m)
+      which (m.session == session) (own_lane f steps m) (other_lane f steps m session rail) (own-slim steps m)
+      (all-append (IsSlim f) (flat_map (still_notes f session rail) m.still) (flat_map (stale_notes f steps m.session session rail) m.stale)
       (all-flat (IsSlim f) (still_notes f session rail) (still-slim session rail) m.still)
+      (all-flat (IsSlim f) (stale_notes f steps m.session session rail) (stale-slim steps m.session session rail) m.stale))
 
   lanes-slim : (steps : List (List ℕ)) (m : Moment) (session : ℕ) (rails : List ℕ) → AllByRecursion IsSlimLane (lanes_from f steps m session rails)
   lanes-slim steps m session [] = tt

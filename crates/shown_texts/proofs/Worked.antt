@@ -106,6 +106,7 @@ lacks : map beside_rail (own_notes small_frame [] (record {
     edges = record { session = 0; reason = Holds Share } ∷ [];
   });
   still = [];
+  stale = [];
 }))
     ≡ codes "! error: lock not available" ∷ codes "!   wants X on t['it''s']" ∷ codes "!   a holds S" ∷ []
 unfolding chars
@@ -132,6 +133,7 @@ nothing_told : map beside_rail (own_notes small_frame [] (record {
   status = Broken;
   ending = Ended;
   still = [];
+  stale = [];
 }))
     ≡ codes "! done" ∷ []
 nothing_told = refl
@@ -144,7 +146,7 @@ in_block = InBlock Serializable
 
 abbrev moment : ℕ → Manner → ℕ → List Event → Status → Ending → Moment
 moment session manner step events status ending =
-    record { session = session; manner = manner; step = Some step; events = events; changes = []; status = status; ending = ending; still = [] }
+    record { session = session; manner = manner; step = Some step; events = events; changes = []; status = status; ending = ending; still = []; stale = [] }
 
 abbrev wants_two : Want
 wants_two = record {

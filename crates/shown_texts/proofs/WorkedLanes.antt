@@ -51,6 +51,7 @@ moment session manner step events status ending still =
       status = status;
       ending = ending;
       still = still;
+      stale = [];
     }
 
 abbrev begun : Status → Begun

@@ -15,6 +15,8 @@ use Rattle.line_moments.specs.declared.moment.Manner.TheVariants.{IsSent, IsResu
 use Rattle.line_moments.specs.declared.moment.Manner.{Manner}
 use Rattle.line_moments.specs.declared.moment.Moment.{Moment}
 use Rattle.line_moments.specs.declared.moment.Still.{Still}
+use Rattle.line_moments.specs.declared.stale.Stale.{Stale}
+use Rattle.shown_texts.specs.Stale.{stale_text}
 use Rattle.line_moments.specs.declared.shown.Begun.{Begun}
 use Rattle.line_moments.specs.declared.shown.Shown.{Shown}
 use Rattle.shown_texts.specs.Characters.{padded, shown_text}
@@ -133,6 +135,10 @@ rail_behind m = rail_by m.ending m.status
 abbrev pub still_notes : Frame → ℕ → ℕ → Still → List Cell
 still_notes f session rail still = cond (still.session == session) (flat_map (reason_note f rail (codes "now ")) still.edges) []
 
+-- what is told of a session whose read the moment made stale
+abbrev pub stale_notes : Frame → List (List ℕ) → ℕ → ℕ → ℕ → Stale → List Cell
+stale_notes f steps writer session rail stale = cond (stale.session == session) (note f rail 2 (stale_text f steps writer stale)) []
+
 -- ---- the lanes beside each other
 
 -- the session's lane beside a moment
@@ -140,11 +146,14 @@ abbrev pub own_lane : Frame → List (List ℕ) → Moment → Lane
 own_lane f steps m = record { lines = own_notes f steps m; below = rail_behind m }
 
 -- that of another session, whose rail is so
-abbrev pub other_lane : Frame → Moment → ℕ → ℕ → Lane
-other_lane f m session rail = record { lines = flat_map (still_notes f session rail) m.still; below = rail }
+abbrev pub other_lane : Frame → List (List ℕ) → Moment → ℕ → ℕ → Lane
+other_lane f steps m session rail = record {
+  lines = flat_map (still_notes f session rail) m.still ++ flat_map (stale_notes f steps m.session session rail) m.stale;
+  below = rail;
+}
 
 abbrev pub lane : Frame → List (List ℕ) → Moment → ℕ → ℕ → Lane
-lane f steps m session rail = cond (m.session == session) (own_lane f steps m) (other_lane f m session rail)
+lane f steps m session rail = cond (m.session == session) (own_lane f steps m) (other_lane f steps m session rail)
 
 -- of the sessions from this one on, whose rails are so
 abbrev pub lanes_from : Frame → List (List ℕ) → Moment → ℕ → List ℕ → List Lane

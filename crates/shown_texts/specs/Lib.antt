@@ -2,6 +2,7 @@ pub mod Characters
 pub mod Names
 pub mod Breaking
 pub mod Words
+pub mod Stale
 pub mod Lanes
 pub mod Orders
 pub mod Levels

@@ -1,12 +1,11 @@
 -- The page that shows one order.
 use Rattle.std.specs.Prelude.{ℕ, ◌+◌, ◌-◌, ◌/◌, max, nat_le, nat_lt, Bool, cond, ◌==◌}
 use Rattle.std.specs.Prelude.{List, [], ◌∷◌, ◌++◌, length, map, get_or, codes, decimal, flat_map, encode_utf8_all, Option}
-use Rattle.std.specs.List.{join_by, list_any}
+use Rattle.std.specs.List.{list_any}
 use Rattle.bound_statements.specs.declared.statement.Level.{Level}
 use Rattle.lock_modes.specs.declared.value.Value.{Value}
 use Rattle.lock_queues.specs.declared.reason.Edge.{Edge}
 use Rattle.lock_queues.specs.Reasons.{Want}
-use Rattle.transcripts.specs.Text.{value_text}
 use Rattle.line_moments.specs.declared.moment.Moment.{Moment}
 use Rattle.line_moments.specs.declared.shown.Left.{Left}
 use Rattle.line_moments.specs.declared.shown.Shown.{Shown}
@@ -16,7 +15,7 @@ use Rattle.shown_texts.specs.Characters.{padded, shown_text, trimmed}
 use Rattle.shown_texts.specs.Names.{cut, shortened}
 use Rattle.shown_texts.specs.Breaking.{broken}
 use Rattle.shown_texts.specs.Levels.{level_text}
-use Rattle.shown_texts.specs.Words.{reason_text, want_text}
+use Rattle.shown_texts.specs.Words.{reason_text, want_text, values_text}
 use Rattle.shown_texts.specs.Lanes.{cell, width, row_text, rows}
 use Rattle.shown_texts.specs.Orders.{comes_in, order_text, widest_from}
 use Rattle.shown_texts.specs.declared.frame.Frame.{Frame}
@@ -138,9 +137,6 @@ waiting_lines f name (StillWaits want) = hanging_lines (waiting_text f name want
 abbrev pub waiting_from : Frame → ℕ → List Standing → List (List ℕ)
 waiting_from f session [] = []
 waiting_from f session (s ∷ ss) = waiting_lines f (get_or f.whole session []) s ++ waiting_from f (session + 1) ss
-
-abbrev pub values_text : List Value → List ℕ
-values_text values = join_by value_text (codes "|") values
 
 abbrev pub row_lines : Value × List Value → List (List ℕ)
 row_lines row = broken 80 2 4 (shown_text (values_text row.1))

@@ -4,7 +4,9 @@ use Rattle.lock_modes.specs.declared.mode.Mode.{Mode}
 use Rattle.lock_modes.specs.declared.mode.Mode.TheVariants.{IntentShare, IntentExclusive, Share, ShareIntent, Exclusive}
 use Rattle.lock_modes.specs.declared.resource.Resource.{Resource}
 use Rattle.lock_modes.specs.declared.resource.Resource.TheVariants.{Table, Row}
+use Rattle.std.specs.List.{join_by}
 use Rattle.lock_modes.specs.Mode.{same_mode}
+use Rattle.lock_modes.specs.declared.value.Value.{Value}
 use Rattle.lock_queues.specs.declared.reason.Reason.{Reason}
 use Rattle.lock_queues.specs.declared.reason.Reason.TheVariants.{Holds, Ahead}
 use Rattle.lock_queues.specs.declared.reason.Edge.{Edge}
@@ -24,6 +26,9 @@ mode_text IntentExclusive = codes "IX"
 mode_text Share = codes "S"
 mode_text ShareIntent = codes "SIX"
 mode_text Exclusive = codes "X"
+
+abbrev pub values_text : List Value → List ℕ
+values_text values = join_by value_text (codes "|") values
 
 -- a table by its name, and a row by its table and its key
 abbrev pub place_text : List (List ℕ) → Resource → List ℕ

@@ -3,6 +3,7 @@
 ghost use Rattle.std.specs.Prelude.{◌≡◌, ◌++◌, ◌∷◌, [], IfOk, OnOk, flat_map};
 ghost use Rattle.shown_texts.specs.Characters.{shown_text};
 ghost use Rattle.shown_texts.specs.Pages as spec;
+ghost use Rattle.shown_texts.specs.Words.{values_text};
 
 use crate::breaking::{COLUMNS, broken, hanging_lines};
 use crate::characters::{put, put_line, put_shown};
@@ -126,7 +127,7 @@ fn put_values(
 
 /// The values of a row with a bar between each two, as they are shown. It fails for want of memory alone.
 pub fn values_line(alloc: Global, values: &[Value]) -> Result<Items<char>, AllocError>
-    ensures { IfOk result (λ line. line ≡ shown_text (spec.values_text values.now)) }
+    ensures { IfOk result (λ line. line ≡ shown_text (values_text values.now)) }
 {
     let mut text = String::new(alloc);
     push_values(&mut text, values)?;

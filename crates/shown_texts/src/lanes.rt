@@ -49,7 +49,7 @@ fn lane(
     if usize::from(moment.session) == session {
         return own_lane(alloc, frame, steps, moment);
     }
-    let lines = other_notes(alloc, frame, session, rail, moment.still.as_slice())?;
+    let lines = other_notes(alloc, frame, steps, moment, session, rail)?;
     Ok(Lane { lines, below: rail })
 }
 

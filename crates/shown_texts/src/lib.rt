@@ -15,6 +15,7 @@ mod notes;
 mod orders;
 mod page;
 mod pages;
+mod stale;
 mod told;
 mod words;
 

@@ -7,10 +7,11 @@ use crate::breaking::broken;
 use crate::characters::{put, put_line, put_shown};
 use crate::frame::Frame;
 use crate::lane::{Cell, Tone};
+use crate::stale::stale_text;
 use crate::told::push_event;
 use crate::words::{put_hop, put_reason, put_ring, put_want};
 use events::Event;
-use line_moments::{Ending, Moment, Still};
+use line_moments::{Ending, Moment, Stale, Still};
 use lock_modes::Text;
 use lock_queues::{Edge, Hop, Want};
 use machine_model::Status;
@@ -413,7 +414,7 @@ fn put_still(
 }
 
 /// What is told of a session, whose rail is so, that goes on waiting.
-pub(crate) fn other_notes(
+fn still_notes(
     alloc: Global,
     frame: &Frame,
     session: usize,
@@ -426,5 +427,68 @@ pub(crate) fn other_notes(
     for still in stills {
         put_still(alloc, &mut cells, frame, session, rail, still)?;
     }
+    Ok(cells)
+}
+
+fn put_stale(
+    alloc: Global,
+    cells: &mut Items<Cell>,
+    frame: &Frame,
+    steps: &[Text],
+    writer: usize,
+    session: usize,
+    rail: char,
+    stale: &Stale,
+) -> Result<(), AllocError>
+    ensures { OnOk result (cells.new ≡ cells.old ++ spec.stale_notes frame.now steps.now writer session rail stale.now) }
+{
+    if usize::from(stale.session) != session {
+        return Ok(());
+    }
+    let text = stale_text(alloc, frame, steps, writer, stale)?;
+    put_note(alloc, cells, frame, rail, 2, text.as_slice())
+}
+
+/// Puts what is told of a session, whose rail is so, and its reads that another one made stale, behind other lines.
+fn put_stales(
+    alloc: Global,
+    cells: &mut Items<Cell>,
+    frame: &Frame,
+    steps: &[Text],
+    writer: usize,
+    session: usize,
+    rail: char,
+    stales: &[Stale],
+) -> Result<(), AllocError>
+    ensures { OnOk result (cells.new ≡ cells.old ++ flat_map (spec.stale_notes frame.now steps.now writer session rail) stales.now) }
+{
+    for stale in stales {
+        put_stale(alloc, cells, frame, steps, writer, session, rail, stale)?;
+    }
+    Ok(())
+}
+
+/// What a moment of another session tells of this one, whose rail is so.
+pub(crate) fn other_notes(
+    alloc: Global,
+    frame: &Frame,
+    steps: &[Text],
+    moment: &Moment,
+    session: usize,
+    rail: char,
+) -> Result<Items<Cell>, AllocError>
+    ensures { IfOk result (λ cells. cells ≡ (spec.other_lane frame.now steps.now moment.now session rail).lines) }
+{
+    let mut cells = still_notes(alloc, frame, session, rail, moment.still.as_slice())?;
+    put_stales(
+        alloc,
+        &mut cells,
+        frame,
+        steps,
+        usize::from(moment.session),
+        session,
+        rail,
+        moment.stale.as_slice(),
+    )?;
     Ok(cells)
 }

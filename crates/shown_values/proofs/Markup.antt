@@ -29,7 +29,9 @@ use Rattle.line_moments.specs.declared.moment.Ending.{Ending}
 use Rattle.line_moments.specs.declared.moment.Ending.TheVariants.{Ended, Awaits, Loses, Lacks}
 use Rattle.line_moments.specs.declared.moment.Manner.{Manner}
 use Rattle.line_moments.specs.declared.moment.Manner.TheVariants.{IsSent, IsResumed, IsNotSent}
+use Rattle.events.specs.declared.event.Event.{Event}
 use Rattle.line_moments.specs.declared.moment.Still.{Still}
+use Rattle.line_moments.specs.declared.stale.Stale.{Stale}
 use Rattle.line_moments.specs.declared.moment.Moment.{Moment}
 use Rattle.line_moments.specs.declared.shown.Begun.{Begun}
 use Rattle.line_moments.specs.declared.shown.Left.{Left}
@@ -40,7 +42,7 @@ use Rattle.shown_values.specs.Strings.{array_json, by_number, byte_text, escaped
 use Rattle.shown_values.specs.Words.{manner_json, mode_json, name_of, number_json, resource_json, status_json, told, line_json}
 use Rattle.shown_values.specs.Levels.{asked_json, level_word, levels_json}
 use Rattle.shown_values.specs.Moments.{change_json, edge_json, end_json, ending_json, going_json, has_json, hop_json, lock_json, moment_json}
-use Rattle.shown_values.specs.Moments.{reason_json, still_json, want_json}
+use Rattle.shown_values.specs.Moments.{reason_json, stale_json, stales_json, still_json, want_json}
 use Rattle.shown_values.specs.Page.{Sheet, begun_json, entry_json, left_json, numbers_json, open_from, open_json, order_json, page_json, shown_json, step_json, table_json}
 use Rattle.shown_values.specs.Laws.{IsFree}
 
@@ -204,6 +206,17 @@ change-free tables LetGo = refl
 still-free : (still : Still) → IsFree (still_json still)
 still-free still = simp (list_any-append, decimal-free still.session, edges-free still.edges)
 
+lines-free : (steps : List (List ℕ)) (events : List Event) → IsFree (array_json (line_json steps) events)
+lines-free steps events = array-free (line_json steps) (λ event. string-free _) events
+
+stale-free : (steps : List (List ℕ)) (stale : Stale) → IsFree (stale_json steps stale)
+stale-free steps stale =
+    simp (list_any-append, decimal-free stale.session, decimal-free stale.step, lines-free steps stale.told, lines-free steps stale.told_now)
+
+stales-free : (steps : List (List ℕ)) (stales : List Stale) → IsFree (stales_json steps stales)
+stales-free steps [] = refl
+stales-free steps (s ∷ ss) = array-free (stale_json steps) (stale-free steps) (s ∷ ss)
+
 ending-free : (tables : List Left) (ending : Ending) → IsFree (ending_json tables ending)
 ending-free tables Ended = refl
 ending-free tables (Awaits want) = want-free tables want
@@ -213,18 +226,24 @@ ending-free tables (Lacks want) = want-free tables want
 going-free : (moment : Moment) → IsFree (going_json moment)
 going-free moment = simp (list_any-append, decimal-free moment.session, manner-free moment.manner, number-free moment.step)
 
-end-free : (tables : List Left) (moment : Moment) → IsFree (end_json tables moment)
-end-free tables moment =
-    simp (list_any-append, status-free moment.status, ending-free tables moment.ending, array-free still_json still-free moment.still)
+end-free : (tables : List Left) (steps : List (List ℕ)) (moment : Moment) → IsFree (end_json tables steps moment)
+end-free tables steps moment =
+    simp (
+      list_any-append,
+      status-free moment.status,
+      ending-free tables moment.ending,
+      array-free still_json still-free moment.still,
+      stales-free steps moment.stale,
+    )
 
 moment-free : (tables : List Left) (steps : List (List ℕ)) (moment : Moment) → IsFree (moment_json tables steps moment)
 moment-free tables steps moment =
     simp (
       list_any-append,
       going-free moment,
-      array-free (line_json steps) (λ event. string-free _) (told moment.events),
+      lines-free steps (told moment.events),
       array-free (change_json tables) (change-free tables) moment.changes,
-      end-free tables moment,
+      end-free tables steps moment,
     )
 
 -- ---- the page

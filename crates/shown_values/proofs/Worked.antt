@@ -10,7 +10,7 @@ use Rattle.lock_queues.specs.declared.reason.Edge.{Edge}
 use Rattle.lock_queues.specs.declared.reason.Reason.TheVariants.{Holds, Ahead}
 use Rattle.bound_statements.specs.declared.statement.Level.TheVariants.{Serializable, Committed}
 use Rattle.machine_model.specs.declared.status.Status.TheVariants.{Outside, InBlock, Broken}
-use Rattle.events.specs.declared.event.Event.TheVariants.{Sent, Failed, Done, NotSent}
+use Rattle.events.specs.declared.event.Event.TheVariants.{Sent, Row as RowEvent, Rows, Failed, Done, NotSent}
 use Rattle.events.specs.declared.event.Fault.TheVariants.{Deadlock}
 use Rattle.line_moments.specs.declared.moment.Change.TheVariants.{Had, LetGo}
 use Rattle.line_moments.specs.declared.moment.Ending.TheVariants.{Ended, Awaits, Loses}
@@ -19,7 +19,7 @@ use Rattle.line_moments.specs.declared.shown.Left.{Left}
 use Rattle.line_moments.specs.declared.shown.Standing.TheVariants.{HasEnded, IsOpen, HasFailed, StillWaits}
 use Rattle.shown_values.specs.Strings.{array_json, escaped, string_json}
 use Rattle.shown_values.specs.Levels.{levels_json}
-use Rattle.shown_values.specs.Moments.{moment_json, want_json}
+use Rattle.shown_values.specs.Moments.{end_json, moment_json, want_json}
 use Rattle.shown_values.specs.Page.{Sheet, left_json, open_from, open_json, page_json}
 
 -- what would end a script, and a reference
@@ -70,6 +70,7 @@ loses : moment_json (accounts ∷ []) []
           record { session = 0; resource = RowOf 0 (Int (pos 2)); mode = Exclusive; edge = holds 1 Exclusive } ∷ []
           );
       still = [];
+      stale = [];
     })
     ≡ codes "{\"session\":1,\"kind\":\"sent\",\"step\":4,\"told\":[\"error: deadlock\",\"done\"],\"locks\":[[\"t\",\"IX\"],null],"
     ++ codes "\"status\":\"failed\",\"ring\":[[1,\"X\",\"t[1]\",[0,\"holds\",\"X\"]],[0,\"X\",\"t[2]\",[1,\"holds\",\"X\"]]],\"still\":[]}"
@@ -88,11 +89,29 @@ not_sent : moment_json (accounts ∷ []) (codes "a1" ∷ codes "b2" ∷ [])
       ending =
           Awaits (record { resource = RowOf 0 (Text (codes "ada")); mode = Exclusive; asked = Exclusive; has = None; edges = holds 0 Exclusive ∷ [] });
       still = record { session = 2; edges = is_ahead 1 Exclusive ∷ [] } ∷ [];
+      stale = [];
     })
     ≡ codes "{\"session\":1,\"kind\":\"notsent\",\"step\":1,\"told\":[\"not sent b2\"],\"locks\":[],\"status\":\"in\","
     ++ codes "\"want\":{\"on\":\"t['ada']\",\"wants\":\"X\",\"for\":[[0,\"holds\",\"X\"]]},\"still\":[[2,[[1,\"ahead\",\"X\"]]]]}"
 unfolding digits escaped escape_byte
 not_sent = refl
+
+-- a commit makes what another one has read stale
+makes_stale : end_json [] (codes "a1" ∷ [])
+    (record {
+      session = 0;
+      manner = IsSent;
+      step = Some 0;
+      events = [];
+      changes = [];
+      status = Outside;
+      ending = Ended;
+      still = [];
+      stale = record { session = 1; step = 3; told = RowEvent (Int (pos 10) ∷ []) ∷ Rows 1 ∷ []; told_now = Rows 0 ∷ [] } ∷ [];
+    })
+    ≡ codes ",\"status\":\"out\",\"still\":[],\"stale\":[[1,3,[\"row 10\",\"rows 1\"],[\"rows 0\"]]]}"
+unfolding digits escaped escape_byte
+makes_stale = refl
 
 -- a conversion, which a request that refuses to wait cannot have
 lacks : want_json (accounts ∷ [])
@@ -146,6 +165,7 @@ one_step = record {
           status = Outside;
           ending = Ended;
           still = [];
+          stale = [];
         } ∷ [];
     left = [];
     standings = HasEnded ∷ [];

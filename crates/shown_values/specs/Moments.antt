@@ -1,5 +1,5 @@
 -- The JSON of moments: where these are the tables with their names, and the names of the steps.
-use Rattle.std.specs.Prelude.{ℕ, List, [], ◌++◌, Option, Some, None, codes, decimal}
+use Rattle.std.specs.Prelude.{ℕ, List, [], ◌∷◌, ◌++◌, Option, Some, None, codes, decimal}
 use Rattle.lock_modes.specs.declared.mode.Mode.{Mode}
 use Rattle.lock_modes.specs.declared.resource.Resource.{Resource}
 use Rattle.lock_queues.specs.declared.reason.Reason.{Reason}
@@ -13,6 +13,7 @@ use Rattle.line_moments.specs.declared.moment.Ending.{Ending}
 use Rattle.line_moments.specs.declared.moment.Ending.TheVariants.{Ended, Awaits, Loses, Lacks}
 use Rattle.line_moments.specs.declared.moment.Still.{Still}
 use Rattle.line_moments.specs.declared.moment.Moment.{Moment}
+use Rattle.line_moments.specs.declared.stale.Stale.{Stale}
 use Rattle.line_moments.specs.declared.shown.Left.{Left}
 use Rattle.shown_values.specs.Strings.{array_json}
 use Rattle.shown_values.specs.Words.{line_json, manner_json, mode_json, number_json, resource_json, status_json, told}
@@ -50,6 +51,17 @@ change_json tables LetGo = codes "null"
 abbrev pub still_json : Still → List ℕ
 still_json still = codes "[" ++ decimal still.session ++ codes "," ++ array_json edge_json still.edges ++ codes "]"
 
+-- a read that is stale: who read, in which step, what it was told and what it would be told now
+abbrev pub stale_json : List (List ℕ) → Stale → List ℕ
+stale_json steps stale =
+    codes "[" ++ decimal stale.session ++ codes "," ++ decimal stale.step
+    ++ (codes "," ++ array_json (line_json steps) stale.told) ++ (codes "," ++ array_json (line_json steps) stale.told_now) ++ codes "]"
+
+-- the reads that are stale, as a member, where there are any
+abbrev pub stales_json : List (List ℕ) → List Stale → List ℕ
+stales_json steps [] = []
+stales_json steps (s ∷ ss) = codes ",\"stale\":" ++ array_json (stale_json steps) (s ∷ ss)
+
 -- what is told of a wait, a deadlock or a lack, as a member
 abbrev pub ending_json : List Left → Ending → List ℕ
 ending_json tables Ended = []
@@ -64,12 +76,12 @@ going_json moment =
     ++ (codes ",\"step\":" ++ number_json moment.step)
 
 -- how it ends
-abbrev pub end_json : List Left → Moment → List ℕ
-end_json tables moment =
+abbrev pub end_json : List Left → List (List ℕ) → Moment → List ℕ
+end_json tables steps moment =
     (codes ",\"status\":" ++ status_json moment.status) ++ ending_json tables moment.ending
-    ++ (codes ",\"still\":" ++ array_json still_json moment.still) ++ codes "}"
+    ++ (codes ",\"still\":" ++ array_json still_json moment.still) ++ stales_json steps moment.stale ++ codes "}"
 
 abbrev pub moment_json : List Left → List (List ℕ) → Moment → List ℕ
 moment_json tables steps moment =
     going_json moment ++ (codes ",\"told\":" ++ array_json (line_json steps) (told moment.events))
-    ++ (codes ",\"locks\":" ++ array_json (change_json tables) moment.changes) ++ end_json tables moment
+    ++ (codes ",\"locks\":" ++ array_json (change_json tables) moment.changes) ++ end_json tables steps moment

@@ -9,7 +9,7 @@ use crate::strings::{push, push_before, push_index, push_word};
 use crate::texts::{push_line, push_resource};
 use crate::words::{push_manner, push_mode, push_status, push_step_number};
 use events::{Event, Transcript};
-use line_moments::{Change, Ending, Left, Moment, Still};
+use line_moments::{Change, Ending, Left, Moment, Stale, Still};
 use lock_modes::{Mode, Resource, Text};
 use lock_queues::{Edge, Hop, Reason, Want};
 use sqlite_items::Items;
@@ -44,7 +44,7 @@ fn push_moment(
     push_going(moment, out)?;
     push_told(steps, &moment.events, out)?;
     push_changes(",\"locks\":", tables, &moment.changes, out)?;
-    push_end(tables, moment, out)
+    push_end(tables, steps, moment, out)
 }
 
 /// Pushes who goes, why, and with which step.
@@ -65,12 +65,18 @@ fn push_told(steps: &[Text], transcript: &Transcript, out: &mut Vec<u8>) -> Resu
 }
 
 /// Pushes how a moment ends.
-fn push_end(tables: &Items<Left>, moment: &Moment, out: &mut Vec<u8>) -> Result<(), AllocError>
-    ensures { OnOk result (out.new.items ≡ out.old.items ++ spec.end_json tables.now moment.now) }
+fn push_end(
+    tables: &Items<Left>,
+    steps: &[Text],
+    moment: &Moment,
+    out: &mut Vec<u8>,
+) -> Result<(), AllocError>
+    ensures { OnOk result (out.new.items ≡ out.old.items ++ spec.end_json tables.now steps.now moment.now) }
 {
     push_status(",\"status\":", moment.status, out)?;
     push_ending(tables, &moment.ending, out)?;
     push_stills(",\"still\":", &moment.still, out)?;
+    push_stales(steps, moment.stale.as_slice(), out)?;
     push("}", out)
 }
 
@@ -244,6 +250,43 @@ fn push_stills(label: &str, stills: &Items<Still>, out: &mut Vec<u8>) -> Result<
         push_before(",", place, out)?;
         push_still(still, out)?;
     }
+    push("]", out)
+}
+
+/// Pushes the reads that a moment made stale, as a member, where there are any.
+fn push_stales(steps: &[Text], stales: &[Stale], out: &mut Vec<u8>) -> Result<(), AllocError>
+    ensures { OnOk result (out.new.items ≡ out.old.items ++ spec.stales_json steps.now stales.now) }
+{
+    if stales.is_empty() {
+        return Ok(());
+    }
+    push_some_stales(",\"stale\":", steps, stales, out)
+}
+
+/// Pushes a label and stale reads behind it.
+fn push_some_stales(
+    label: &str,
+    steps: &[Text],
+    stales: &[Stale],
+    out: &mut Vec<u8>,
+) -> Result<(), AllocError>
+    ensures { OnOk result (out.new.items ≡ out.old.items ++ (label.now ++ array_json (spec.stale_json steps.now) stales.now)) }
+{
+    push_word(label, "[", out)?;
+    for (place, stale) in stales.iter().enumerate() {
+        push_before(",", place, out)?;
+        push_stale(steps, stale, out)?;
+    }
+    push("]", out)
+}
+
+fn push_stale(steps: &[Text], stale: &Stale, out: &mut Vec<u8>) -> Result<(), AllocError>
+    ensures { OnOk result (out.new.items ≡ out.old.items ++ spec.stale_json steps.now stale.now) }
+{
+    push_index("[", stale.session, out)?;
+    push_index(",", stale.step, out)?;
+    push_lines(",", steps, stale.told.events(), out)?;
+    push_lines(",", steps, stale.told_now.events(), out)?;
     push("]", out)
 }
 

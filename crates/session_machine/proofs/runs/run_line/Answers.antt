@@ -1,7 +1,8 @@
 use Rattle.std.proofs.Common.{ap, ◌∙◌}
 use Rattle.machine_model.specs.World.{outcome_of}
 use Rattle.session_machine.specs.Running.{Running}
-use Rattle.serial_history.proofs.StartsTold.{bound-serial, bound-shown}
+use Rattle.serial_history.proofs.LockedLines.{bound-serial}
+use Rattle.serial_history.proofs.StartsTold.{bound-shown}
 use Rattle.session_machine.proofs.runs.run_line.Goals as goal
 
 -- by the laws of the serial order

@@ -80,8 +80,8 @@ returns c = λ s next same.
       traces = traces-at (c.sessions-count.result + 1) (suc sessions) i _ (had_of (wait_of x.locks i)) (standing_at i (staged_of c.tell.new.self)) here
           c.statements.result.now _ r.point r.point c.in_ok-trace.trace count c.in_ok-changes.ensures there c.statements.ensures.are refl
           c.in_ok-trace.ensures;
-      is = told-is (c.sessions-count.result + 1) (suc sessions) x y i IsResumed _ c.in_ok-trace.trace _ _ c.in_ok-moment.moment count events
-          c.in_ok-still.ensures (c.in_ok-moment.ensures ∙ ap (λ k. record {
+      is = told-is steps (c.sessions-count.result + 1) (suc sessions) x y i IsResumed _ c.in_ok-trace.trace _ _ _ c.in_ok-moment.moment count events
+          c.in_ok-still.ensures c.in_ok-stale.ensures (c.in_ok-moment.ensures ∙ ap (λ k. record {
             session = i;
             manner = IsResumed;
             step = k;
@@ -90,5 +90,6 @@ returns c = λ s next same.
             status = (member_at y i).state.status;
             ending = ending_by (want_of (c.sessions-count.result + 1) (look_in y.locks) y.locks.waits i) c.in_ok-trace.trace.refusal;
             still = c.in_ok-still.still;
+            stale = c.in_ok-stale.stale;
           }) step);
     })

@@ -55,6 +55,6 @@ returns c =
       traces = traces-at (c.sessions-count.result + 1) (suc sessions) i _ [] (standing_at i (staged_of c.tell.new.self)) (sent_standing x i k)
           c.statements.result.now _ c.start.result (record { statement = 0; request = 0 }) c.in_ok-trace.trace count c.new.ensures there
           c.statements.ensures.are c.start.ensures c.in_ok-trace.ensures;
-      is = told-is (c.sessions-count.result + 1) (suc sessions) x y i IsSent (Some k) c.in_ok-trace.trace _ _ c.in_ok-moment.moment count events
-          c.in_ok-still.ensures c.in_ok-moment.ensures;
+      is = told-is c.args.spec.now.run.steps (c.sessions-count.result + 1) (suc sessions) x y i IsSent (Some k) c.in_ok-trace.trace _ _ _ c.in_ok-moment.moment count events
+          c.in_ok-still.ensures c.in_ok-stale.ensures c.in_ok-moment.ensures;
     }

@@ -47,4 +47,4 @@ returns-clause-told c =
     c.requires.waits in
     c.in_ok-push.ensures.ok
     ∙ ap (λ m. c.args.told.now ++ m ∷ [])
-    (c.in_ok-moment.ensures ∙ ap (λ (z : Staged). moment_told n z y i IsNotSent (Some k) no_trace) c.in_ok-before.ensures ∙ is)
+    (c.in_ok-moment.ensures ∙ ap (λ (z : Staged). moment_told steps n z y i IsNotSent (Some k) no_trace) c.in_ok-before.ensures ∙ is)

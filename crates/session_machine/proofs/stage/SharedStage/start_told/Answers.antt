@@ -16,7 +16,7 @@ returns-clause-told c =
     let k = c.args.step in
     let i = c.args.session in
     let started = c.in_ok-start_step.ensures.started in
-    let told = subst (λ (z : Staged). IsTold n z y i IsSent (Some k) [] (sent_standing z i k) (tasks_from (member_at z i).state.status (drop 0 (statements_of steps k)) 0) c.in_ok-moment.moment)
+    let told = subst (λ (z : Staged). IsTold steps n z y i IsSent (Some k) [] (sent_standing z i k) (tasks_from (member_at z i).state.status (drop 0 (statements_of steps k)) 0) c.in_ok-moment.moment)
     c.in_ok-before.ensures c.in_ok-moment.ensures in
     let is = sent-is steps n x y c.requires.stage started.stage c.requires.count (started.count ∙ c.requires.count) k i
     (subst (λ m. i < m) c.requires.count c.requires.inside) c.requires.sender c.requires.idle started c.in_ok-moment.moment told in

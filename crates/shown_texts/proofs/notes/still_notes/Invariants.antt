@@ -1,6 +1,6 @@
 use Rattle.std.proofs.Common.{◌≡◌, flat_map, take}
 use Rattle.shown_texts.specs.Lanes.{still_notes}
-use Rattle.shown_texts.proofs.notes.other_notes.Given as goal
+use Rattle.shown_texts.proofs.notes.still_notes.Given as goal
 
 -- what is told of those passed is put
 abbrev pub invariant-loop-still : goal.invariant-loop-still
