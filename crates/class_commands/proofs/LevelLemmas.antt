@@ -141,17 +141,7 @@ module _ (bytes : List ℕ) (level : Level) where
         are_results = twice.1;
       }
 
-  -- what is not read is not found
-  pub unread : (fault : ClassesFault) → IsNotReadSpec bytes (Some level) fault → IsNotFoundAt bytes fault
-  unread (NoSpec fault) is = is
-  unread (WrongLevel fault) is = (level, is)
-  unread (Asked fault) never = never
-  unread (Run error) never = absurd never
-  unread (TooMany noted) never = absurd never
-  unread NoMemory any = tt
-  unread (Write fault) never = never
-
-  -- nor is what is not counted
+  -- what is not counted is not found
   pub uncounted : (r : ReadSpec) → IsReadSpec bytes (Some level) r → (fault : ClassesFault) → IsNotFound None r.spec fault → IsNotFoundAt bytes fault
   uncounted r is (NoSpec fault) never = absurd never
   uncounted r is (WrongLevel fault) never = absurd never
@@ -164,16 +154,6 @@ module _ (bytes : List ℕ) (level : Level) where
 -- ---- the run
 
 module _ {W : Type 0} (contents : W → Option (List ℕ)) (old : Counted W) (bytes path : List ℕ) (wanted : WantedLevels) where
-  -- where a level is not found nothing is written
-  pub not-found : (fault : ClassesFault) → IsNotFoundAt bytes fault → IsLevelsRun contents old old bytes path wanted (Err fault)
-  not-found (NoSpec fault) is = (refl, is)
-  not-found (WrongLevel fault) is = (refl, is)
-  not-found (Asked fault) never = absurd never
-  not-found (Run error) is = (refl, is)
-  not-found (TooMany noted) is = (refl, is)
-  not-found NoMemory any = (refl, tt)
-  not-found (Write fault) never = absurd never
-
   module _ (k : Kept) (kept : IsKeptAt bytes Serializable k) (y : FoundAt) (found : IsFoundAt bytes Committed y) (new : Counted W) where
     abbrev telling : (text : List ℕ) → IsLevelsText path wanted k y text → IsTellingOfLevels bytes path wanted text
     telling text is =
