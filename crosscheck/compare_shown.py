@@ -106,6 +106,7 @@ def many_spec(maker):
     return namer.named(made.decode()) if namer.some(0.4) else made
 
 
+# What sessions of the kind `stale` read of a few rows, what they write there, and how they end.
 STALE_READS = ["SELECT v FROM t WHERE id = {key}", "SELECT * FROM t", "SELECT w, id FROM t WHERE v > 15", "SELECT count(*), sum(v) FROM t"]
 STALE_READS += ["SELECT count(*) FROM t WHERE v < 25", "SELECT a FROM n ORDER BY a", "SELECT id FROM t WHERE id = {key} FOR SHARE"]
 STALE_WRITES = ["UPDATE t SET v = v + 10 WHERE id = {key}", "UPDATE t SET v = 10, w = w WHERE id = {key}", "DELETE FROM t WHERE id = {key}"]
