@@ -261,6 +261,14 @@ fn put_letters(
     Ok(())
 }
 
+/// How wide the columns of a level are.
+fn side_widths(alloc: Global, side: &Side<'_>) -> Result<TotalWidths, AllocError>
+    ensures { IfOk result (λ widths. widths ≡ spec.side_widths side.now) }
+{
+    let letters = letters_of(ClassKind::Shows, false);
+    total_widths(alloc, ClassKind::Shows, side.totals, letters)
+}
+
 fn totals_lines(
     alloc: Global,
     serializable: &Side<'_>,
@@ -269,8 +277,8 @@ fn totals_lines(
     ensures { IfOk result (λ lines. lines ≡ spec.totals_lines serializable.now committed.now) }
 {
     let letters = letters_of(ClassKind::Shows, false);
-    let first = total_widths(alloc, ClassKind::Shows, serializable.totals, letters)?;
-    let second = total_widths(alloc, ClassKind::Shows, committed.totals, letters)?;
+    let first = side_widths(alloc, serializable)?;
+    let second = side_widths(alloc, committed)?;
     let mut lines = heads(alloc, first, second)?;
     put_letters(
         alloc,
